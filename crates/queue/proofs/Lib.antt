@@ -1,0 +1,4 @@
+mod Scan
+mod Shift
+mod Outcome
+mod Check

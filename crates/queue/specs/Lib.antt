@@ -1,0 +1,11 @@
+pub mod Slots
+pub mod Order
+pub mod Answers
+pub mod Determined
+pub mod Lengths
+pub mod Stands
+pub mod Room
+pub mod Counts
+pub mod Keeps
+pub mod Stable
+pub mod Checked

@@ -1,0 +1,247 @@
+// Ordered queues in place, on slices of any length. A slot is a byte: 0 is free, and v holds the id v - 1. The queue is packed to
+// the front, in the order of the keys that the caller lends (a key for each id, the smaller first), and among equals by arrival.
+// No function asks anything of its caller; each refusal leaves the slots as they came.
+ghost use mathlib.Core.Path.{_≡_};
+ghost use lib.ListN.{length, getD, drop};
+ghost use Prim.Native.Nat.{_+_, _<_};
+ghost use Rattle.queue.specs.Slots.{firstAt, same, later, placeBehind, opened, fallen, closed, behind, without};
+ghost use Rattle.queue.specs.Order.{mayPrecede, fits, isOrdered};
+ghost use Rattle.queue.specs.Answers.{headOf, foundIn, known, insertAnswer, removeAnswer, moveAnswer, inserted, movedIn};
+
+// Who is first.
+pub enum Head {
+    Is(u8),
+    Nobody,
+}
+
+// Where an id stands.
+pub enum Found {
+    At(usize),
+    Nowhere,
+}
+
+// What a change of the queue answers.
+pub enum Answer {
+    Done,
+    BeyondKeys,
+    AlreadyThere,
+    NotThere,
+    Full,
+}
+
+// The first slot that holds v, or the length.
+fn slot_of(ids: &[u8], v: usize) -> usize
+    ensures { λ r. ⌜ r ≡ firstAt (same v) (now (ids .entry)) ⌝ }
+{
+    let mut i = 0;
+    while i < ids.len() {
+        let y = ids[i] as usize;
+        if y == v {
+            return i;
+        }
+        i += 1;
+    }
+    i
+}
+
+// The slot j, and past the end a free one.
+fn slot_or_free(ids: &[u8], j: usize) -> u8
+    ensures { λ r. ⌜ r ≡ getD (now (ids .entry)) j 0 ⌝ }
+{
+    if j < ids.len() {
+        return ids[j];
+    }
+    0
+}
+
+// The first id.
+pub fn first(ids: &[u8]) -> Head
+    ensures { λ r. ⌜ r ≡ headOf (now (ids .entry)) ⌝ }
+{
+    let v = slot_or_free(ids, 0);
+    if v == 0 {
+        return Head::Nobody;
+    }
+    Head::Is(v - 1)
+}
+
+// The place of an id.
+pub fn find(ids: &[u8], id: u8) -> Found
+    ensures { λ r. ⌜ r ≡ foundIn id (now (ids .entry)) ⌝ }
+{
+    let at = slot_of(ids, id as usize + 1);
+    if at < ids.len() {
+        return Found::At(at);
+    }
+    Found::Nowhere
+}
+
+// Whether a slot is free, or its id has a greater key.
+fn is_later(keys: &[u8], key: u8, v: u8) -> bool
+    ensures { λ r. ⌜ r ≡ later (now (keys .entry)) key v ⌝ }
+{
+    if v == 0 {
+        return true;
+    }
+    let k = slot_or_free(keys, v as usize - 1);
+    key < k
+}
+
+// Where an id with this key goes behind its equals, or the length where all slots are before it.
+pub fn place_behind(ids: &[u8], keys: &[u8], key: u8) -> usize
+    ensures { λ r. ⌜ r ≡ placeBehind (now (keys .entry)) key (now (ids .entry)) ⌝ }
+{
+    let mut i = 0;
+    while i < ids.len() {
+        let y = ids[i];
+        if is_later(keys, key, y) {
+            return i;
+        }
+        i += 1;
+    }
+    i
+}
+
+// v comes to the slot `at`, and those from there on move one further, up to the first free slot. Answers what falls out at
+// the end: 0 where a slot was free, and v itself where `at` is past the end.
+pub fn open(ids: &mut [u8], at: usize, v: u8) -> u8
+    ensures { λ r. ⌜ (r ≡ fallen at v (now (ids .entry))) × (now (ids .exit) ≡ opened at v (now (ids .entry))) ⌝ }
+{
+    let mut carry = v;
+    let mut j = at;
+    while j < ids.len() {
+        let y = ids[j];
+        ids[j] = carry;
+        if y == 0 {
+            return 0;
+        }
+        carry = y;
+        j += 1;
+    }
+    carry
+}
+
+// The slot `at` goes, and those behind it move one nearer, up to the first free slot. Answers what stood there.
+pub fn close(ids: &mut [u8], at: usize) -> u8
+    ensures { λ r. ⌜ (r ≡ getD (now (ids .entry)) at 0) × (now (ids .exit) ≡ closed at (now (ids .entry))) ⌝ }
+{
+    let gone = slot_or_free(ids, at);
+    let mut j = at;
+    while j < ids.len() {
+        let y = slot_or_free(ids, j + 1);
+        ids[j] = y;
+        if y == 0 {
+            return gone;
+        }
+        j += 1;
+    }
+    gone
+}
+
+// Whether an id has a key, and a slot can hold it: 255 it cannot.
+fn is_known(keys: &[u8], id: u8) -> bool
+    ensures { λ r. ⌜ r ≡ known (now (keys .entry)) id ⌝ }
+{
+    (id < 255) & ((id as usize) < keys.len())
+}
+
+fn put_behind(ids: &mut [u8], keys: &[u8], id: u8)
+    requires { ⌜ id < 255 ⌝ }
+    ensures { λ _. ⌜ now (ids .exit) ≡ behind (now (keys .entry)) id (now (ids .entry)) ⌝ }
+{
+    let key = slot_or_free(keys, id as usize);
+    let at = place_behind(ids, keys, key);
+    open(ids, at, id + 1);
+}
+
+// The id goes behind its equals. Refused: an id without a key, or 255; one that stands there; where no slot is free.
+pub fn insert(ids: &mut [u8], keys: &[u8], id: u8) -> Answer
+    ensures { λ r. ⌜ (r ≡ insertAnswer (now (keys .entry)) id (now (ids .entry))) × (now (ids .exit) ≡ inserted (now (keys .entry)) id (now (ids .entry))) ⌝ }
+{
+    if !is_known(keys, id) {
+        return Answer::BeyondKeys;
+    }
+    let at = slot_of(ids, id as usize + 1);
+    if at < ids.len() {
+        return Answer::AlreadyThere;
+    }
+    let free = slot_of(ids, 0);
+    if ids.len() <= free {
+        return Answer::Full;
+    }
+    put_behind(ids, keys, id);
+    Answer::Done
+}
+
+// The id leaves. Refused: one that does not stand there.
+pub fn remove(ids: &mut [u8], id: u8) -> Answer
+    ensures { λ r. ⌜ (r ≡ removeAnswer id (now (ids .entry))) × (now (ids .exit) ≡ without id (now (ids .entry))) ⌝ }
+{
+    let at = slot_of(ids, id as usize + 1);
+    if ids.len() <= at {
+        return Answer::NotThere;
+    }
+    close(ids, at);
+    Answer::Done
+}
+
+// The id, whose key has changed, leaves and goes behind its equals at the new level. Refused: an id without a key, or 255; one
+// that does not stand there.
+pub fn move_behind(ids: &mut [u8], keys: &[u8], id: u8) -> Answer
+    ensures { λ r. ⌜ (r ≡ moveAnswer (now (keys .entry)) id (now (ids .entry))) × (now (ids .exit) ≡ movedIn (now (keys .entry)) id (now (ids .entry))) ⌝ }
+{
+    if !is_known(keys, id) {
+        return Answer::BeyondKeys;
+    }
+    let at = slot_of(ids, id as usize + 1);
+    if ids.len() <= at {
+        return Answer::NotThere;
+    }
+    close(ids, at);
+    put_behind(ids, keys, id);
+    Answer::Done
+}
+
+// Whether the slot v may stand before the slot w: w is free, or its key is no smaller.
+fn may_precede(keys: &[u8], v: u8, w: u8) -> bool
+    requires { ⌜ 0 < v ⌝ }
+    ensures { λ r. ⌜ r ≡ mayPrecede (now (keys .entry)) v w ⌝ }
+{
+    if w == 0 {
+        return true;
+    }
+    let a = slot_or_free(keys, v as usize - 1);
+    let b = slot_or_free(keys, w as usize - 1);
+    a <= b
+}
+
+// Whether the slot j is as it should be, before those behind it.
+fn is_fit(ids: &[u8], keys: &[u8], j: usize) -> bool
+    requires { ⌜ j < length (now ids) ⌝ }
+    ensures { λ r. ⌜ r ≡ fits (now (keys .entry)) (getD (now (ids .entry)) j 0) (drop (j + 1) (now (ids .entry))) ⌝ }
+{
+    let v = ids[j];
+    let w = slot_or_free(ids, j + 1);
+    if v == 0 {
+        return w == 0;
+    }
+    let rest = &ids[j + 1..];
+    let again = slot_of(rest, v as usize);
+    let once = rest.len() <= again;
+    let ordered = may_precede(keys, v, w);
+    ((v as usize) <= keys.len()) & (once & ordered)
+}
+
+// Whether the queue is as it should be: packed, each id within the keys, none twice, in order.
+pub fn is_ordered(ids: &[u8], keys: &[u8]) -> bool
+    ensures { λ r. ⌜ r ≡ isOrdered (now (keys .entry)) (now (ids .entry)) ⌝ }
+{
+    let mut j = 0;
+    while j < ids.len() {
+        if !is_fit(ids, keys, j) {
+            return false;
+        }
+        j += 1;
+    }
+    true
+}
