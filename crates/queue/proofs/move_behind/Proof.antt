@@ -1,3 +1,7 @@
+use mathlib.Core.Path.{ap}
+use mathlib.Core.List.{List}
+use Prim.Native.Nat.{ℕ}
+use Rattle.queue.specs.Slots.{closed, behind}
 use mathlib.Core.Path.{_∙_, sym}
 use borrow.Author.Tests.{not-true, not-false}
 use Rattle.queue.proofs.Outcome.{known-small, move-unknown, move-absent, move-done}
@@ -46,8 +50,10 @@ returns-3 : tie.Need-returns-3
 returns-3 c =
     let d = c .before .before .before .before .before .before .before .before in
     let e = d .before .before .before in
+    let a = e .before .before .before .before .args in
     let r = move-done _ _ _ _ (d .before .slot-of .ensures) (sym (e .before .is-known .ensures) ∙ not-false _ (e .if1 .left)) (d .if2 .left) in
-    (r .0, cc)
+    let left = c .before .before .before .before .before .before .close .ensures .1 ∙ ap (λ (n : ℕ). closed n (a .ids .now)) (d .before .slot-of .ensures) in
+    (r .0, c .before .before .put-behind .ensures ∙ ap (behind (a .keys .now) (a .id)) left ∙ r .1)
 
 pub move-behind-spec : {M : Type 1} → statement M
 move-behind-spec =

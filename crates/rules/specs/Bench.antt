@@ -1,0 +1,157 @@
+-- "Loops on the bench": P1 to P10, each computed from the rules with the paper's numbers, as one statement.
+use mathlib.Core.Path.{_≡_, refl}
+use mathlib.Core.Bool.{true, false}
+use mathlib.Core.List.{List, [], _∷_, _++_}
+use Prim.Native.Nat.{ℕ}
+use lib.ListN.{replicate}
+use Rattle.queue.specs.Slots.{firstAt, later, push, pull, opened, closed}
+use Rattle.queue.specs.Order.{count, mayPrecede, fits, isOrdered}
+use Rattle.rules.specs.Sound.{each, isShaped, objectsIn, marksIn, isTaskInRange, isInRange, isNoTask, isNoSemaphore, isNoMutex, isFreeZero, isQueued, isWaited, isWorked, isHeldRight, isTimed, runsRight, isSound}
+use Rattle.rules.specs.Sizes.{mostCount, delayed, plain, given}
+use Rattle.rules.specs.Chain.{leads, smallest, fresh}
+use Rattle.rules.specs.Walk.{walkOn}
+use Rattle.rules.specs.Table.{Table, freshTable, taskOf, isAble, placeOf, works, semaphoreQueue, firstIn, written, withTick}
+use Rattle.rules.specs.Move.{leave, join, stays, put, rotate, holderOf, next, freshIn, ended, endedAll, chosen, peerBelow}
+use Rattle.rules.specs.Task.{createAnswer, create, suspendAnswer, suspend, resumeAnswer, resume}
+use Rattle.rules.specs.Time.{delayAnswer, delay}
+use Rattle.rules.specs.Lock.{lockAnswer, lock, unlockAnswer, unlock}
+use Rattle.rules.specs.Object.{blocked, taken}
+use Rattle.rules.specs.Semaphore.{semaphoreCreateAnswer, semaphoreCreate, semaphoreWaitAnswer, semaphoreWait, semaphorePostAnswer, semaphorePost}
+use Rattle.rules.specs.Mutex.{mutexCreateAnswer, mutexCreate, mutexWaitAnswer, mutexWait, mutexPostAnswer, handed, released, mutexPost}
+use Rattle.rules.specs.Tick.{turned, dueEnded, dueBelow, ticked}
+use Rattle.rules.specs.Step.{Outcome, answerTo, changeBy, forInterrupts, answer, effect, serve, step}
+use Rattle.rules.specs.Port.{ofKind, reading}
+use Rattle.rules.specs.Tape.{little, widths, sum, numbers, bodyLength, callIn, decimal, runner, line, printedOf, printed, tape}
+use Rattle.rules.specs.declared.Call.{Call}
+use Rattle.rules.specs.declared.Call.the-variants.{TaskCreate, Suspend, Resume, Delay, Lock, Unlock, Tick, SemaphoreCreate, SemaphoreWait, SemaphorePost, MutexCreate, MutexWait, MutexPost}
+
+-- ---- calls that tasks make, one after another, on sound tables
+
+-- The table after them; their answers; the task that runs after each, written.
+unfoldable pub after : Table → List Call → Table
+after t [] = t
+after t (c ∷ cs) = after (serve c false t .table) cs
+
+unfoldable pub answers : Table → List Call → List ℕ
+answers t [] = []
+answers t (c ∷ cs) = let o = serve c false t in o .answer ∷ answers (o .table) cs
+
+unfoldable pub runs : Table → List Call → List ℕ
+runs t [] = []
+runs t (c ∷ cs) = let o = serve c false t in o .runs ∷ runs (o .table) cs
+
+-- The working priority of a task; a wait that may block, for ever.
+abbrev works-at : Table → ℕ → ℕ
+works-at t i = taskOf t i .work
+
+abbrev wait : ℕ → Call
+wait m = MutexWait m 1 0
+
+abbrev many : ℕ → Call → List Call
+many n c = replicate n c
+
+-- ---- P1
+
+-- `01 03 0A 02 00 / 20 00 / 22 00 01 00 00 00 00 / 01 01 05 00 00 / 22 00 01 00 00 00 00 / 01 02 07 00 00 / 23 00`
+abbrev pub p1-tape : List ℕ
+p1-tape =
+    (0x01 ∷ 0x03 ∷ 0x0A ∷ 0x02 ∷ 0x00 ∷ [])
+    ++ (0x20 ∷ 0x00 ∷ [])
+    ++ (0x22 ∷ 0x00 ∷ 0x01 ∷ 0x00 ∷ 0x00 ∷ 0x00 ∷ 0x00 ∷ [])
+    ++ (0x01 ∷ 0x01 ∷ 0x05 ∷ 0x00 ∷ 0x00 ∷ [])
+    ++ (0x22 ∷ 0x00 ∷ 0x01 ∷ 0x00 ∷ 0x00 ∷ 0x00 ∷ 0x00 ∷ [])
+    ++ (0x01 ∷ 0x02 ∷ 0x07 ∷ 0x00 ∷ 0x00 ∷ [])
+    ++ (0x23 ∷ 0x00 ∷ [])
+
+-- A digit, a space, a digit, the end of the line.
+abbrev two : ℕ → ℕ → List ℕ
+two a b = a ∷ 0x20 ∷ b ∷ 0x0A ∷ []
+
+-- `0 3`, `0 3`, `0 3`, `0 1`, `14 3`, `0 3`, `0 1`
+abbrev pub p1-text : List ℕ
+p1-text = two 0x30 0x33 ++ two 0x30 0x33 ++ two 0x30 0x33 ++ two 0x30 0x31 ++ (0x31 ∷ two 0x34 0x33) ++ two 0x30 0x33 ++ two 0x30 0x31
+
+-- ---- the tables of P2 to P8
+
+-- "Task 3 (base 10) holds mutexes 0 and 1; task 1 (5) waits for 0, task 2 (7) for 1."
+abbrev pub p2-table : Table
+p2-table = after freshTable (TaskCreate 3 10 0 ∷ MutexCreate 0 ∷ MutexCreate 1 ∷ wait 0 ∷ wait 1 ∷ TaskCreate 2 7 0 ∷ wait 1 ∷ TaskCreate 1 5 0 ∷ wait 0 ∷ [])
+
+-- "Task 4 (20) holds mutex 0; task 3 (10) holds 1 and waits for 0; task 1 (2) waits for 1", for 5 ticks at most
+abbrev pub p3-table : Table
+p3-table =
+    after freshTable (TaskCreate 4 20 0 ∷ MutexCreate 0 ∷ MutexCreate 1 ∷ wait 0 ∷ TaskCreate 3 10 0 ∷ wait 1 ∷ wait 0 ∷ TaskCreate 1 2 0 ∷ MutexWait 1 1 5 ∷ [])
+
+-- "Ring: 3 (10) holds 0 and waits for 1, 4 (20) holds 1 and waits for 0."
+abbrev pub p4-table : Table
+p4-table = after freshTable (TaskCreate 4 20 0 ∷ MutexCreate 0 ∷ MutexCreate 1 ∷ wait 1 ∷ TaskCreate 3 10 0 ∷ wait 0 ∷ wait 1 ∷ wait 0 ∷ [])
+
+-- "Delay 3 at counter 4,294,967,294"
+abbrev pub p5-table : Table
+p5-table = after (withTick 4294967294 freshTable) (TaskCreate 1 5 0 ∷ Delay 3 ∷ [])
+
+-- Depth 1, with task 1 running, and then "a more urgent task is created".
+abbrev pub p8-table : Table
+p8-table = after freshTable (TaskCreate 1 5 0 ∷ Lock ∷ TaskCreate 2 4 0 ∷ [])
+
+-- Task 1 waits for semaphore 0, and is suspended.
+abbrev pub suspended-waiter : Table
+suspended-waiter = after freshTable (TaskCreate 2 9 0 ∷ SemaphoreCreate 0 0 ∷ TaskCreate 1 5 0 ∷ SemaphoreWait 0 1 0 ∷ Suspend 1 ∷ [])
+
+-- ---- the statement
+
+pub record Bench : Type 0 where
+  -- P1, with its whole output
+  pub p1 : tape p1-tape ≡ p1-text
+  -- P2. "It works at 5. It posts 0: it works at 7, not 10."
+  pub p2-before : works-at p2-table 3 ≡ 5
+  pub p2-after : works-at (after p2-table (MutexPost 0 ∷ [])) 3 ≡ 7
+  -- P3. "3 and 4 work at 2. Task 1 times out: both at 10."
+  pub p3-before : (works-at p3-table 3 ≡ 2) × (works-at p3-table 4 ≡ 2)
+  pub p3-after : (works-at (after p3-table (many 5 Tick)) 3 ≡ 10) × (works-at (after p3-table (many 5 Tick)) 4 ≡ 10)
+  -- P4. "Both work at 10; neither is able."
+  pub p4-works : (works-at p4-table 3 ≡ 10) × (works-at p4-table 4 ≡ 10)
+  pub p4-able : (isAble (taskOf p4-table 3) ≡ false) × (isAble (taskOf p4-table 4) ≡ false) × (p4-table .running ≡ 0)
+  -- P5. "mark 1, ended by the third tick"
+  pub p5-mark : (taskOf p5-table 1 .marked ≡ 1) × (taskOf p5-table 1 .due ≡ 1)
+  pub p5-second : taskOf (after p5-table (many 2 Tick)) 1 .state ≡ delayed
+  pub p5-third : taskOf (after p5-table (many 3 Tick)) 1 .state ≡ plain
+  -- P6. "Post at count 4,294,967,295: 11; at 4,294,967,294: 0."
+  pub p6-full : answers freshTable (SemaphoreCreate 0 mostCount ∷ SemaphorePost 0 ∷ []) ≡ 0 ∷ 11 ∷ []
+  pub p6-room : answers freshTable (SemaphoreCreate 0 4294967294 ∷ SemaphorePost 0 ∷ []) ≡ 0 ∷ 0 ∷ []
+  -- P7. "250 nested mutex waits answer 0, the next 10."
+  pub p7 : answers freshTable (TaskCreate 1 5 0 ∷ MutexCreate 0 ∷ many 251 (wait 0)) ≡ replicate 252 0 ++ (10 ∷ [])
+  -- P8. "the caller runs on; after unlock the new task runs"
+  pub p8 : (p8-table .running ≡ written 1) × (runs p8-table (Unlock ∷ []) ≡ written 2 ∷ [])
+  -- P9. "Tasks 1 and 2, base 5, quanta 2 and 1, created in that order: running after three ticks: 1, 2, 1."
+  pub p9 : runs (after freshTable (TaskCreate 1 5 2 ∷ TaskCreate 2 5 1 ∷ [])) (many 3 Tick) ≡ written 1 ∷ written 2 ∷ written 1 ∷ []
+  -- P10. "Tick on the fresh table: 0, counter 1, none."
+  pub p10 : (answers freshTable (Tick ∷ []) ≡ 0 ∷ []) × (after freshTable (Tick ∷ []) .tick ≡ 1) × (runs freshTable (Tick ∷ []) ≡ 0 ∷ [])
+  -- An easy slip that those ten do not show: "A suspended waiter dropped from its queue." It stays there and is given the semaphore,
+  -- and is able once it is resumed.
+  pub waits-on : firstIn (semaphoreQueue 0) suspended-waiter ≡ written 1
+  pub is-given : (taskOf (after suspended-waiter (SemaphorePost 0 ∷ [])) 1 .state ≡ plain) × (runs suspended-waiter (SemaphorePost 0 ∷ Resume 1 ∷ []) ≡ written 2 ∷ written 1 ∷ [])
+
+pub bench : Bench
+unfolding firstAt later push pull opened closed leads smallest fresh walkOn freshTable isAble placeOf works leave join stays put rotate holderOf next freshIn ended endedAll chosen peerBelow createAnswer create suspendAnswer suspend resumeAnswer resume delayAnswer delay lockAnswer lock unlockAnswer unlock blocked taken semaphoreCreateAnswer semaphoreCreate semaphoreWaitAnswer semaphoreWait semaphorePostAnswer semaphorePost mutexCreateAnswer mutexCreate mutexWaitAnswer mutexWait mutexPostAnswer handed released mutexPost turned dueEnded dueBelow ticked answerTo changeBy forInterrupts answer effect serve ofKind reading little widths sum numbers bodyLength callIn decimal runner line printedOf printed tape step count mayPrecede fits isOrdered each isShaped objectsIn marksIn isTaskInRange isInRange isNoTask isNoSemaphore isNoMutex isFreeZero isQueued isWaited isWorked isHeldRight isTimed runsRight isSound after answers runs
+bench =
+    record {
+      p1 = refl;
+      p2-before = refl;
+      p2-after = refl;
+      p3-before = (refl, refl);
+      p3-after = (refl, refl);
+      p4-works = (refl, refl);
+      p4-able = (refl, refl, refl);
+      p5-mark = (refl, refl);
+      p5-second = refl;
+      p5-third = refl;
+      p6-full = refl;
+      p6-room = refl;
+      p7 = refl;
+      p8 = (refl, refl);
+      p9 = refl;
+      p10 = (refl, refl, refl);
+      waits-on = refl;
+      is-given = (refl, refl);
+    }

@@ -1,0 +1,18 @@
+-- "Lock, unlock change the depth."
+use mathlib.Core.Bool.{cond}
+use Prim.Native.Nat.{ℕ, _+_, _-_}
+use lib.Dec.{eqb, leb}
+use Rattle.rules.specs.Sizes.{mostNested, done, nestedTooDeep, nothingToUndo}
+use Rattle.rules.specs.Table.{Table, withDepth}
+
+unfoldable pub lockAnswer : Table → ℕ
+lockAnswer t = cond (leb mostNested (t .depth)) nestedTooDeep done
+
+unfoldable pub lock : Table → Table
+lock t = withDepth (t .depth + 1) t
+
+unfoldable pub unlockAnswer : Table → ℕ
+unlockAnswer t = cond (eqb (t .depth) 0) nothingToUndo done
+
+unfoldable pub unlock : Table → Table
+unlock t = withDepth (t .depth - 1) t

@@ -1,0 +1,110 @@
+-- "Move": how tasks change their places. `put` is the one door; `rotate` is the one other move.
+use mathlib.Core.Bool.{Bool, true, false, cond, _&&_, not}
+use Prim.Native.Nat.{ℕ, zero, suc, _+_, _-_}
+use lib.Dec.{eqb, ltb, leb}
+use Rattle.queue.specs.Slots.{behind, without, moved}
+use Rattle.rules.specs.Sizes.{taskCount, waitsMutex, delayed, plain}
+use Rattle.rules.specs.Chain.{fresh}
+use Rattle.rules.specs.Walk.{walkOn}
+use Rattle.rules.specs.declared.Task.{Task}
+use Rattle.rules.specs.Table.{Table, queueCount, ableQueue, taskOf, mutexOf, queueOf, works, placeOf, firstIn, isAble, written, withTask, withQueue, withRunning, withWork, withLeft, withState, withMark, withOutcome}
+
+-- ---- the one door
+
+-- Task i leaves queue q, if there is such a queue.
+unfoldable pub leave : ℕ → ℕ → Table → Table
+leave q i t = let out = withQueue q (without i (queueOf t q)) t in cond (ltb q queueCount) out t
+
+-- "Each is ordered by working priority, and among equals by arrival." Task i goes behind its equals in queue q, if there is such a queue.
+unfoldable pub join : ℕ → ℕ → Table → Table
+join q i t = let into = withQueue q (behind (works t) i (queueOf t q)) t in cond (ltb q queueCount) into t
+
+-- Whether place and working priority are as before.
+unfoldable pub stays : Task → Task → Bool
+stays old new = eqb (placeOf old) (placeOf new) && eqb (old .work) (new .work)
+
+-- "Where a task's working priority changes while it stands in a queue, it goes behind its equals at the new level." "A task that
+-- becomes able goes behind its equals." Task i becomes k: where its place and its working priority are as before no queue is
+-- touched; else it leaves its queue and goes behind its equals in the other. (A number that is no task's changes nothing.)
+unfoldable pub put : ℕ → Task → Table → Table
+put i k t =
+    let elsewhere = join (placeOf k) i (leave (placeOf (taskOf t i)) i (withTask i k t)) in
+    let becomes = cond (stays (taskOf t i) k) (withTask i k t) elsewhere in
+    cond (ltb i taskCount) becomes t
+
+-- "the caller goes behind its equals, left = quantum": the able task i, at the end of its turn.
+unfoldable pub rotate : ℕ → Table → Table
+rotate i t =
+    let full = withTask i (withLeft (taskOf t i .quantum) (taskOf t i)) t in
+    let rotated = withQueue ableQueue (moved (works t) i (queueOf t ableQueue)) full in
+    cond (ltb i taskCount) rotated t
+
+-- ---- the walk
+
+-- The task that holds mutex m; `taskCount`, which is no task, for none.
+unfoldable pub holderOf : Table → ℕ → ℕ
+holderOf t m = cond (eqb (mutexOf t m .holder) 0) taskCount (mutexOf t m .holder - 1)
+
+-- The holder of the mutex for which j waits, or no task.
+unfoldable pub next : Table → ℕ → ℕ
+next t j = let holder = holderOf t (taskOf t j .object) in cond (eqb (taskOf t j .state) waitsMutex) holder taskCount
+
+abbrev pub baseOf : Table → ℕ → ℕ
+baseOf t j = taskOf t j .base
+
+-- The working priority of task i, worked out afresh in the table as it is.
+unfoldable pub freshIn : Table → ℕ → ℕ
+freshIn t i = fresh taskCount (next t) (baseOf t) i
+
+abbrev pub putWork : Table → ℕ → ℕ → Table
+putWork t i p = put i (withWork p (taskOf t i)) t
+
+-- "Changes run along the chain: the task where it began, then the holder of the mutex it waits for, and so on, each task once. The
+-- walk follows the chain of holders, which is never more than 32 tasks long." The count falls from 32, also round a ring.
+abbrev pub walk : ℕ → Table → Table
+walk i t = walkOn taskCount next freshIn putWork taskCount i t
+
+-- ---- waits that end
+
+-- A task that has left its queue and waits for nothing: it stands nowhere.
+abbrev pub away : Task → Task
+away k = withState delayed 0 (withMark 0 0 k)
+
+-- "becomes plain", with an outcome. "A wait or delay that ends clears its mark."
+abbrev pub ready : ℕ → Task → Task
+ready outcome k = withOutcome outcome (withState plain 0 (withMark 0 0 k))
+
+-- "it leaves its queue, the chain from the holder moves, it becomes plain, with outcome .."; a wait for a semaphore and a delay
+-- have no holder, and no chain moves.
+unfoldable pub ended : ℕ → ℕ → Table → Table
+ended outcome i t =
+    let left = put i (away (taskOf t i)) t in
+    let settled = walk (next t i) left in
+    put i (ready outcome (taskOf settled i)) settled
+
+-- "the same for each waiter from the first": the first waiter of queue q, again and again, n times at most.
+unfoldable pub endedAll : ℕ → ℕ → ℕ → Table → Table
+endedAll zero outcome q t = t
+endedAll (suc n) outcome q t =
+    let others = endedAll n outcome q (ended outcome (firstIn q t - 1) t) in
+    cond (eqb (firstIn q t) 0) t others
+
+-- ---- the running task
+
+-- "Last, at depth 0, the first able task runs."
+unfoldable pub chosen : Table → Table
+chosen t = cond (eqb (t .depth) 0) (withRunning (firstIn ableQueue t) t) t
+
+-- Whether the first n tasks have an able one other than i of the working priority of i.
+unfoldable pub peerBelow : ℕ → ℕ → Table → Bool
+peerBelow zero i t = false
+peerBelow (suc n) i t =
+    let before = peerBelow n i t in
+    cond (not (eqb n i) && (isAble (taskOf t n) && eqb (taskOf t n .work) (taskOf t i .work))) true before
+
+-- "another able task has its working priority"
+abbrev pub hasPeer : ℕ → Table → Bool
+hasPeer i t = peerBelow taskCount i t
+
+abbrev pub isRunning : ℕ → Table → Bool
+isRunning i t = eqb (t .running) (written i)

@@ -1,0 +1,82 @@
+-- Mutex create, delete, wait, post, abort.
+use mathlib.Core.Bool.{Bool, cond, not}
+use Prim.Native.Nat.{ℕ, _+_, _-_}
+use lib.Dec.{eqb, leb, ltb}
+use Rattle.rules.specs.Sizes.{mutexCount, mostNested, waitsMutex, given, done, notItsHolder, nestedTooDeep}
+use Rattle.rules.specs.Table.{Table, taskOf, mutexOf, mutexQueue, firstIn, written, noMutex, heldBy, withMutex}
+use Rattle.rules.specs.Move.{put, walk, holderOf, ready}
+use Rattle.rules.specs.Time.{byCaller, callerOf}
+use Rattle.rules.specs.Object.{onObject, createObject, yesNo, waitAnswer, blocked, taken, abortAnswer, abort, deleteAnswer, emptied}
+
+-- The answer of a call on mutex m, which is in use.
+abbrev pub onMutex : ℕ → Table → ℕ → ℕ
+onMutex m t answer = onObject mutexCount m (mutexOf t m .used) answer
+
+-- "A mutex is free, or has a holder"
+abbrev pub isHeld : ℕ → Table → Bool
+isHeld m t = not (eqb (mutexOf t m .holder) 0)
+
+abbrev pub isOwn : ℕ → Table → Bool
+isOwn m t = eqb (mutexOf t m .holder) (written (callerOf t))
+
+unfoldable pub mutexCreateAnswer : ℕ → Table → ℕ
+mutexCreateAnswer m t = createObject mutexCount m (mutexOf t m .used)
+
+unfoldable pub mutexCreate : ℕ → Table → Table
+mutexCreate m t = withMutex m (heldBy 0 0) t
+
+-- ---- "then the object goes; its holder is recomputed and its chain moved. A held mutex without waiters may be deleted unforced."
+
+unfoldable pub mutexDeleteAnswer : ℕ → ℕ → Table → ℕ
+mutexDeleteAnswer m force t = onMutex m t (deleteAnswer force (mutexQueue m) t)
+
+unfoldable pub mutexDelete : ℕ → Table → Table
+mutexDelete m t = walk (holderOf t m) (withMutex m noMutex (emptied (mutexQueue m) t))
+
+-- ---- "a free mutex is taken (nesting 1), a holder's own mutex is nested once more; outcome 0, also when locked. Otherwise the
+-- caller leaves the able queue, goes behind its equals in the object's queue, and for a mutex the chain from the holder moves."
+
+unfoldable pub mutexWaitAnswer : ℕ → ℕ → Table → ℕ
+mutexWaitAnswer m block t =
+    byCaller t
+    (onMutex m t
+    (yesNo block
+    (cond (not (isHeld m t)) done
+    (cond (isOwn m t) (cond (leb mostNested (mutexOf t m .nesting)) nestedTooDeep done)
+    (waitAnswer block t)))))
+
+unfoldable pub mutexWait : ℕ → ℕ → Table → Table
+mutexWait m limit t =
+    let takes = taken (withMutex m (heldBy (written (callerOf t)) 1) t) in
+    let nests = taken (withMutex m (heldBy (mutexOf t m .holder) (mutexOf t m .nesting + 1)) t) in
+    let waits = walk (holderOf t m) (blocked waitsMutex m limit t) in
+    cond (not (isHeld m t)) takes (cond (isOwn m t) nests waits)
+
+-- ---- "Mutex post: nesting less 1; at 0 the releaser moves first, then the first waiter becomes holder with nesting 1 and becomes
+-- plain, outcome 0, or the mutex is free." While the releaser moves, the mutex no longer counts for it.
+
+unfoldable pub mutexPostAnswer : ℕ → Table → ℕ
+mutexPostAnswer m t = byCaller t (onMutex m t (cond (not (isOwn m t)) notItsHolder done))
+
+-- The task written w is the new holder; none where w is 0.
+unfoldable pub handed : ℕ → ℕ → Table → Table
+handed m w t =
+    let holds = put (w - 1) (ready given (taskOf t (w - 1))) (withMutex m (heldBy w 1) t) in
+    cond (eqb w 0) t holds
+
+unfoldable pub released : ℕ → Table → Table
+released m t =
+    let free = walk (callerOf t) (withMutex m (heldBy 0 0) t) in
+    handed m (firstIn (mutexQueue m) free) free
+
+unfoldable pub mutexPost : ℕ → Table → Table
+mutexPost m t =
+    let keeps = withMutex m (heldBy (mutexOf t m .holder) (mutexOf t m .nesting - 1)) t in
+    let gone = released m t in
+    cond (ltb 1 (mutexOf t m .nesting)) keeps gone
+
+unfoldable pub mutexAbortAnswer : ℕ → Table → ℕ
+mutexAbortAnswer m t = onMutex m t (abortAnswer (mutexQueue m) t)
+
+unfoldable pub mutexAbort : ℕ → Table → Table
+mutexAbort m t = abort (mutexQueue m) t

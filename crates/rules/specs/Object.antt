@@ -1,0 +1,58 @@
+-- What the calls on semaphores and on mutexes share.
+use mathlib.Core.Bool.{Bool, cond, not, _&&_}
+use Prim.Native.Nat.{ℕ, _-_}
+use lib.Dec.{eqb, ltb, leb}
+use Rattle.rules.specs.Sizes.{taskCount, given, aborted, objectDeleted, done, beyondRange, notInUse, inUse, badValue, whileLocked, nothingToTake, nothingToUndo, stillNeeded, blocks}
+use Rattle.rules.specs.declared.Task.{Task}
+use Rattle.rules.specs.Table.{Table, taskOf, isUsed, firstIn, withState, withMark, withOutcome}
+use Rattle.rules.specs.Move.{put, ended, endedAll}
+use Rattle.rules.specs.Task.{isLocked}
+use Rattle.rules.specs.Time.{callerOf, markIn}
+
+-- The answer of a call on object o of `count`, which is in range and in use, or else the number that says what is wrong.
+abbrev pub onObject : (count o used answer : ℕ) → ℕ
+onObject count o used answer = cond (leb count o) beyondRange (cond (not (isUsed used)) notInUse answer)
+
+abbrev pub createObject : (count o used : ℕ) → ℕ
+createObject count o used = cond (leb count o) beyondRange (cond (isUsed used) inUse done)
+
+-- A yes/no byte.
+abbrev pub yesNo : ℕ → ℕ → ℕ
+yesNo byte answer = cond (ltb 1 byte) badValue answer
+
+abbrev pub hasWaiter : ℕ → Table → Bool
+hasWaiter q t = not (eqb (firstIn q t) 0)
+
+-- ---- "Wait takes a yes/no for blocking, and a time limit; 0 means for ever, else a due mark as for a delay. A non-blocking wait
+-- ignores its limit."
+
+-- A wait that finds nothing to take: 8 before 7.
+abbrev pub waitAnswer : ℕ → Table → ℕ
+waitAnswer block t = cond (eqb block 0) nothingToTake (cond (isLocked t) whileLocked blocks)
+
+abbrev pub limited : ℕ → Table → Task → Task
+limited limit t k = cond (eqb limit 0) (withMark 0 0 k) (withMark 1 (markIn limit t) k)
+
+-- "the caller leaves the able queue, goes behind its equals in the object's queue"
+unfoldable pub blocked : (state object limit : ℕ) → Table → Table
+blocked state object limit t = put (callerOf t) (withState state object (limited limit t (taskOf t (callerOf t)))) t
+
+-- "outcome 0" of the caller, who takes the object at once
+unfoldable pub taken : Table → Table
+taken t = put (callerOf t) (withOutcome given (taskOf t (callerOf t))) t
+
+-- ---- "Abort: the first waiter leaves, the chain from the holder moves, the waiter becomes plain, outcome 2."
+
+abbrev pub abortAnswer : ℕ → Table → ℕ
+abortAnswer q t = cond (not (hasWaiter q t)) nothingToUndo done
+
+unfoldable pub abort : ℕ → Table → Table
+abort q t = ended aborted (firstIn q t - 1) t
+
+-- ---- "Forced delete: the same for each waiter from the first, outcome 3, then the object goes"
+
+abbrev pub deleteAnswer : (force q : ℕ) → Table → ℕ
+deleteAnswer force q t = yesNo force (cond (eqb force 0 && hasWaiter q t) stillNeeded done)
+
+abbrev pub emptied : ℕ → Table → Table
+emptied q t = endedAll taskCount objectDeleted q t

@@ -1,0 +1,158 @@
+-- "The table and its sizes". Every field is a number, so that each image of the right length shows some table; which tables are
+-- sound is said in `Sound`.
+use mathlib.Core.Bool.{Bool, true, cond, _&&_}
+use mathlib.Core.List.{List, [], map}
+use Prim.Native.Nat.{ℕ, _+_, _-_}
+use lib.Dec.{eqb}
+use lib.ListN.{getD, set, replicate}
+use Rattle.rules.specs.Sizes.{taskCount, semaphoreCount, mutexCount, plain, waitsSemaphore, waitsMutex}
+use Rattle.rules.specs.declared.Task.{Task}
+use Rattle.rules.specs.declared.Semaphore.{Semaphore}
+use Rattle.rules.specs.declared.Mutex.{Mutex}
+
+-- Where "none" may stand, a task's number is written plus 1, and none is 0: a holder, the running task, a slot of a queue.
+abbrev pub written : ℕ → ℕ
+written i = i + 1
+
+-- The tasks, semaphores and mutexes, free or in use; one list of queues; tick counter, lock depth and the running task.
+pub record Table : Type 0 where
+  pub tasks : List Task
+  pub semaphores : List Semaphore
+  pub mutexes : List Mutex
+  pub queues : List (List ℕ)
+  pub tick : ℕ
+  pub depth : ℕ
+  pub running : ℕ
+
+-- ---- free numbers: "a free number has zero fields"
+
+abbrev pub noTask : Task
+noTask = record { used = 0; base = 0; work = 0; suspend = 0; quantum = 0; left = 0; state = 0; object = 0; marked = 0; due = 0; outcome = 0 }
+
+abbrev pub noSemaphore : Semaphore
+noSemaphore = record { used = 0; count = 0 }
+
+abbrev pub noMutex : Mutex
+noMutex = record { used = 0; holder = 0; nesting = 0 }
+
+-- ---- one field changed: only these write a record out whole
+
+abbrev pub withUsed : ℕ → Task → Task
+withUsed x k = record { used = x; base = k .base; work = k .work; suspend = k .suspend; quantum = k .quantum; left = k .left; state = k .state; object = k .object; marked = k .marked; due = k .due; outcome = k .outcome }
+
+abbrev pub withBase : ℕ → Task → Task
+withBase x k = record { used = k .used; base = x; work = k .work; suspend = k .suspend; quantum = k .quantum; left = k .left; state = k .state; object = k .object; marked = k .marked; due = k .due; outcome = k .outcome }
+
+abbrev pub withWork : ℕ → Task → Task
+withWork x k = record { used = k .used; base = k .base; work = x; suspend = k .suspend; quantum = k .quantum; left = k .left; state = k .state; object = k .object; marked = k .marked; due = k .due; outcome = k .outcome }
+
+abbrev pub withSuspend : ℕ → Task → Task
+withSuspend x k = record { used = k .used; base = k .base; work = k .work; suspend = x; quantum = k .quantum; left = k .left; state = k .state; object = k .object; marked = k .marked; due = k .due; outcome = k .outcome }
+
+abbrev pub withQuantum : ℕ → Task → Task
+withQuantum x k = record { used = k .used; base = k .base; work = k .work; suspend = k .suspend; quantum = x; left = k .left; state = k .state; object = k .object; marked = k .marked; due = k .due; outcome = k .outcome }
+
+abbrev pub withLeft : ℕ → Task → Task
+withLeft x k = record { used = k .used; base = k .base; work = k .work; suspend = k .suspend; quantum = k .quantum; left = x; state = k .state; object = k .object; marked = k .marked; due = k .due; outcome = k .outcome }
+
+-- the state with the number of the object waited for, 0 where none is
+abbrev pub withState : ℕ → ℕ → Task → Task
+withState x o k = record { used = k .used; base = k .base; work = k .work; suspend = k .suspend; quantum = k .quantum; left = k .left; state = x; object = o; marked = k .marked; due = k .due; outcome = k .outcome }
+
+-- 1 and the due mark, or 0 and 0 for none
+abbrev pub withMark : ℕ → ℕ → Task → Task
+withMark x d k = record { used = k .used; base = k .base; work = k .work; suspend = k .suspend; quantum = k .quantum; left = k .left; state = k .state; object = k .object; marked = x; due = d; outcome = k .outcome }
+
+abbrev pub withOutcome : ℕ → Task → Task
+withOutcome x k = record { used = k .used; base = k .base; work = k .work; suspend = k .suspend; quantum = k .quantum; left = k .left; state = k .state; object = k .object; marked = k .marked; due = k .due; outcome = x }
+
+abbrev pub counting : ℕ → Semaphore
+counting n = record { used = 1; count = n }
+
+-- held by the task written h, 0 for none, so many times over
+abbrev pub heldBy : ℕ → ℕ → Mutex
+heldBy h n = record { used = 1; holder = h; nesting = n }
+
+abbrev pub withTask : ℕ → Task → Table → Table
+withTask i k t = record { tasks = set (t .tasks) i k; semaphores = t .semaphores; mutexes = t .mutexes; queues = t .queues; tick = t .tick; depth = t .depth; running = t .running }
+
+abbrev pub withSemaphore : ℕ → Semaphore → Table → Table
+withSemaphore s x t = record { tasks = t .tasks; semaphores = set (t .semaphores) s x; mutexes = t .mutexes; queues = t .queues; tick = t .tick; depth = t .depth; running = t .running }
+
+abbrev pub withMutex : ℕ → Mutex → Table → Table
+withMutex m x t = record { tasks = t .tasks; semaphores = t .semaphores; mutexes = set (t .mutexes) m x; queues = t .queues; tick = t .tick; depth = t .depth; running = t .running }
+
+abbrev pub withQueue : ℕ → List ℕ → Table → Table
+withQueue q l t = record { tasks = t .tasks; semaphores = t .semaphores; mutexes = t .mutexes; queues = set (t .queues) q l; tick = t .tick; depth = t .depth; running = t .running }
+
+abbrev pub withTick : ℕ → Table → Table
+withTick n t = record { tasks = t .tasks; semaphores = t .semaphores; mutexes = t .mutexes; queues = t .queues; tick = n; depth = t .depth; running = t .running }
+
+abbrev pub withDepth : ℕ → Table → Table
+withDepth n t = record { tasks = t .tasks; semaphores = t .semaphores; mutexes = t .mutexes; queues = t .queues; tick = t .tick; depth = n; running = t .running }
+
+abbrev pub withRunning : ℕ → Table → Table
+withRunning v t = record { tasks = t .tasks; semaphores = t .semaphores; mutexes = t .mutexes; queues = t .queues; tick = t .tick; depth = t .depth; running = v }
+
+-- ---- parts of a table
+
+abbrev pub taskOf : Table → ℕ → Task
+taskOf t i = getD (t .tasks) i noTask
+
+abbrev pub semaphoreOf : Table → ℕ → Semaphore
+semaphoreOf t s = getD (t .semaphores) s noSemaphore
+
+abbrev pub mutexOf : Table → ℕ → Mutex
+mutexOf t m = getD (t .mutexes) m noMutex
+
+abbrev pub queueOf : Table → ℕ → List ℕ
+queueOf t q = getD (t .queues) q []
+
+-- "Queues: the able tasks, and the waiters of each object." The able queue first, then the semaphores', then the mutexes'.
+abbrev pub queueCount : ℕ
+queueCount = 33
+
+abbrev pub ableQueue : ℕ
+ableQueue = 0
+
+abbrev pub semaphoreQueue : ℕ → ℕ
+semaphoreQueue s = 1 + s
+
+abbrev pub mutexQueue : ℕ → ℕ
+mutexQueue m = 17 + m
+
+-- "A number is in use or free"
+abbrev pub isUsed : ℕ → Bool
+isUsed used = eqb used 1
+
+-- "A task is able if it is in use, plain and its suspend count is 0."
+unfoldable pub isAble : Task → Bool
+isAble k = isUsed (k .used) && (eqb (k .state) plain && eqb (k .suspend) 0)
+
+-- The queue where a task stands: the able queue, or that of the object it waits for; `queueCount` where it stands in none.
+unfoldable pub placeOf : Task → ℕ
+placeOf k =
+    cond (isAble k) ableQueue
+    (cond (eqb (k .state) waitsSemaphore) (semaphoreQueue (k .object))
+    (cond (eqb (k .state) waitsMutex) (mutexQueue (k .object)) queueCount))
+
+-- The working priorities, which are the keys of every queue.
+unfoldable pub works : Table → List ℕ
+works t = map (λ k. k .work) (t .tasks)
+
+-- The task written in the front slot of a queue, 0 for none.
+abbrev pub firstIn : ℕ → Table → ℕ
+firstIn q t = getD (queueOf t q) 0 0
+
+-- "The fresh table: nothing in use, all numbers 0, none running."
+unfoldable pub freshTable : Table
+freshTable =
+    record {
+      tasks = replicate taskCount noTask;
+      semaphores = replicate semaphoreCount noSemaphore;
+      mutexes = replicate mutexCount noMutex;
+      queues = replicate queueCount (replicate taskCount 0);
+      tick = 0;
+      depth = 0;
+      running = 0;
+    }

@@ -1,0 +1,58 @@
+// The records and calls that the rules and the code share. What they mean stands in specs/.
+
+// A task. Numbers of tasks and objects that may be none are written plus 1, with 0 for none; so is whoever holds or runs.
+pub struct Task {
+    pub used: u8,
+    pub base: u8,
+    pub work: u8,
+    pub suspend: u8,
+    pub quantum: u16,
+    pub left: u16,
+    pub state: u8,
+    pub object: u8,
+    pub marked: u8,
+    pub due: u32,
+    pub outcome: u8,
+}
+
+pub struct Semaphore {
+    pub used: u8,
+    pub count: u32,
+}
+
+pub struct Mutex {
+    pub used: u8,
+    pub holder: u8,
+    pub nesting: u8,
+}
+
+// A service call or tick, with its numbers in the order of the tape.
+pub enum Call {
+    TaskCreate(u32, u32, u32),
+    TaskDelete(u32),
+    ChangePriority(u32, u32),
+    Suspend(u32),
+    Resume(u32),
+    Yield,
+    Delay(u32),
+    DelayResume(u32),
+    Lock,
+    Unlock,
+    Tick,
+    SemaphoreCreate(u32, u32),
+    SemaphoreDelete(u32, u32),
+    SemaphoreWait(u32, u32, u32),
+    SemaphorePost(u32),
+    SemaphoreAbort(u32),
+    MutexCreate(u32),
+    MutexDelete(u32, u32),
+    MutexWait(u32, u32, u32),
+    MutexPost(u32),
+    MutexAbort(u32),
+}
+
+// What a kind byte and its numbers say: a call, made by an interrupt or not, or a kind that the list lacks.
+pub enum Reading {
+    Says(Call, bool),
+    Unknown(bool),
+}
