@@ -7,7 +7,7 @@ use lib.ListN.{replicate}
 use Rattle.queue.specs.Slots.{firstAt, later, push, pull, opened, closed}
 use Rattle.queue.specs.Order.{count, mayPrecede, fits, isOrdered}
 use Rattle.rules.specs.Sound.{each, isShaped, objectsIn, marksIn, isTaskInRange, isInRange, isNoTask, isNoSemaphore, isNoMutex, isFreeZero, isQueued, isWaited, isWorked, isHeldRight, isTimed, runsRight, isSound}
-use Rattle.rules.specs.Sizes.{mostCount, delayed, plain, given}
+use Rattle.rules.specs.Sizes.{mostCount, delayed, plain, timedOut}
 use Rattle.rules.specs.Chain.{leads, smallest, fresh}
 use Rattle.rules.specs.Walk.{walkOn}
 use Rattle.rules.specs.Table.{Table, freshTable, taskOf, isAble, placeOf, works, semaphoreQueue, firstIn, written, withTick}
@@ -103,13 +103,18 @@ suspended-waiter = after freshTable (TaskCreate 2 9 0 ∷ SemaphoreCreate 0 0 �
 pub record Bench : Type 0 where
   -- P1, with its whole output
   pub p1 : tape p1-tape ≡ p1-text
-  -- P2. "It works at 5. It posts 0: it works at 7, not 10."
+  -- P2. "Task 3 .. holds mutexes 0 and 1; task 1 .. waits for 0, task 2 .. for 1. It works at 5. It posts 0: it works at 7, not 10."
+  pub p2-set : (holderOf p2-table 0 ≡ 3) × (holderOf p2-table 1 ≡ 3) × (next p2-table 1 ≡ 3) × (next p2-table 2 ≡ 3)
   pub p2-before : works-at p2-table 3 ≡ 5
   pub p2-after : works-at (after p2-table (MutexPost 0 ∷ [])) 3 ≡ 7
-  -- P3. "3 and 4 work at 2. Task 1 times out: both at 10."
+  -- P3. "Task 4 .. holds mutex 0; task 3 .. holds 1 and waits for 0; task 1 .. waits for 1: 3 and 4 work at 2. Task 1 times out: both
+  -- at 10."
+  pub p3-set : (holderOf p3-table 0 ≡ 4) × (holderOf p3-table 1 ≡ 3) × (next p3-table 3 ≡ 4) × (next p3-table 1 ≡ 3)
   pub p3-before : (works-at p3-table 3 ≡ 2) × (works-at p3-table 4 ≡ 2)
   pub p3-after : (works-at (after p3-table (many 5 Tick)) 3 ≡ 10) × (works-at (after p3-table (many 5 Tick)) 4 ≡ 10)
-  -- P4. "Both work at 10; neither is able."
+  pub p3-timed-out : taskOf (after p3-table (many 5 Tick)) 1 .outcome ≡ timedOut
+  -- P4. "3 .. holds 0 and waits for 1, 4 .. holds 1 and waits for 0. Both work at 10; neither is able."
+  pub p4-set : (next p4-table 3 ≡ 4) × (next p4-table 4 ≡ 3)
   pub p4-works : (works-at p4-table 3 ≡ 10) × (works-at p4-table 4 ≡ 10)
   pub p4-able : (isAble (taskOf p4-table 3) ≡ false) × (isAble (taskOf p4-table 4) ≡ false) × (p4-table .running ≡ 0)
   -- P5. "mark 1, ended by the third tick"
@@ -121,12 +126,15 @@ pub record Bench : Type 0 where
   pub p6-room : answers freshTable (SemaphoreCreate 0 4294967294 ∷ SemaphorePost 0 ∷ []) ≡ 0 ∷ 0 ∷ []
   -- P7. "250 nested mutex waits answer 0, the next 10."
   pub p7 : answers freshTable (TaskCreate 1 5 0 ∷ MutexCreate 0 ∷ many 251 (wait 0)) ≡ replicate 252 0 ++ (10 ∷ [])
-  -- P8. "the caller runs on; after unlock the new task runs"
+  -- P8. "Depth 1 .. the caller runs on; after unlock the new task runs"
+  pub p8-depth : p8-table .depth ≡ 1
   pub p8 : (p8-table .running ≡ written 1) × (runs p8-table (Unlock ∷ []) ≡ written 2 ∷ [])
   -- P9. "Tasks 1 and 2, base 5, quanta 2 and 1, created in that order: running after three ticks: 1, 2, 1."
   pub p9 : runs (after freshTable (TaskCreate 1 5 2 ∷ TaskCreate 2 5 1 ∷ [])) (many 3 Tick) ≡ written 1 ∷ written 2 ∷ written 1 ∷ []
   -- P10. "Tick on the fresh table: 0, counter 1, none."
   pub p10 : (answers freshTable (Tick ∷ []) ≡ 0 ∷ []) × (after freshTable (Tick ∷ []) .tick ≡ 1) × (runs freshTable (Tick ∷ []) ≡ 0 ∷ [])
+  -- Each of these tables is sound, so `serve` is what the kernel does there.
+  pub sound : (isSound p2-table ≡ true) × (isSound p3-table ≡ true) × (isSound p4-table ≡ true) × (isSound p5-table ≡ true) × (isSound p8-table ≡ true) × (isSound suspended-waiter ≡ true)
   -- An easy slip that those ten do not show: "A suspended waiter dropped from its queue." It stays there and is given the semaphore,
   -- and is able once it is resumed.
   pub waits-on : firstIn (semaphoreQueue 0) suspended-waiter ≡ written 1
@@ -137,10 +145,14 @@ unfolding firstAt later push pull opened closed leads smallest fresh walkOn fres
 bench =
     record {
       p1 = refl;
+      p2-set = (refl, refl, refl, refl);
       p2-before = refl;
       p2-after = refl;
+      p3-set = (refl, refl, refl, refl);
       p3-before = (refl, refl);
       p3-after = (refl, refl);
+      p3-timed-out = refl;
+      p4-set = (refl, refl);
       p4-works = (refl, refl);
       p4-able = (refl, refl, refl);
       p5-mark = (refl, refl);
@@ -149,9 +161,11 @@ bench =
       p6-full = refl;
       p6-room = refl;
       p7 = refl;
+      p8-depth = refl;
       p8 = (refl, refl);
       p9 = refl;
       p10 = (refl, refl, refl);
+      sound = (refl, refl, refl, refl, refl, refl);
       waits-on = refl;
       is-given = (refl, refl);
     }

@@ -1,4 +1,5 @@
--- "Lock, unlock change the depth."
+-- "Lock, unlock change the depth." Lock is refused with 10 where it would be "the 251st nesting of a .. lock", unlock with 12: "unlock
+-- at depth 0".
 use mathlib.Core.Bool.{cond}
 use Prim.Native.Nat.{ℕ, _+_, _-_}
 use lib.Dec.{eqb, leb}

@@ -19,6 +19,8 @@ isHeld m t = not (eqb (mutexOf t m .holder) 0)
 abbrev pub isOwn : ℕ → Table → Bool
 isOwn m t = eqb (mutexOf t m .holder) (written (callerOf t))
 
+-- ---- "20 mutex create (number)": it is free
+
 unfoldable pub mutexCreateAnswer : ℕ → Table → ℕ
 mutexCreateAnswer m t = createObject mutexCount m (mutexOf t m .used)
 
@@ -36,14 +38,15 @@ mutexDelete m t = walk (holderOf t m) (withMutex m noMutex (emptied (mutexQueue 
 -- ---- "a free mutex is taken (nesting 1), a holder's own mutex is nested once more; outcome 0, also when locked. Otherwise the
 -- caller leaves the able queue, goes behind its equals in the object's queue, and for a mutex the chain from the holder moves."
 
-unfoldable pub mutexWaitAnswer : ℕ → ℕ → Table → ℕ
-mutexWaitAnswer m block t =
-    byCaller t
-    (onMutex m t
-    (yesNo block
-    (cond (not (isHeld m t)) done
+-- Of a mutex in use.
+abbrev pub takeAnswer : ℕ → ℕ → Table → ℕ
+takeAnswer m block t =
+    cond (not (isHeld m t)) done
     (cond (isOwn m t) (cond (leb mostNested (mutexOf t m .nesting)) nestedTooDeep done)
-    (waitAnswer block t)))))
+    (waitAnswer block t))
+
+unfoldable pub mutexWaitAnswer : ℕ → ℕ → Table → ℕ
+mutexWaitAnswer m block t = byCaller t (onMutex m t (yesNo block (takeAnswer m block t)))
 
 unfoldable pub mutexWait : ℕ → ℕ → Table → Table
 mutexWait m limit t =
@@ -55,6 +58,7 @@ mutexWait m limit t =
 -- ---- "Mutex post: nesting less 1; at 0 the releaser moves first, then the first waiter becomes holder with nesting 1 and becomes
 -- plain, outcome 0, or the mutex is free." While the releaser moves, the mutex no longer counts for it.
 
+-- "mutex post by a task that is not its holder"
 unfoldable pub mutexPostAnswer : ℕ → Table → ℕ
 mutexPostAnswer m t = byCaller t (onMutex m t (cond (not (isOwn m t)) notItsHolder done))
 
@@ -74,6 +78,8 @@ mutexPost m t =
     let keeps = withMutex m (heldBy (mutexOf t m .holder) (mutexOf t m .nesting - 1)) t in
     let gone = released m t in
     cond (ltb 1 (mutexOf t m .nesting)) keeps gone
+
+-- ---- "Abort: the first waiter leaves, the chain from the holder moves, the waiter becomes plain, outcome 2."
 
 unfoldable pub mutexAbortAnswer : ℕ → Table → ℕ
 mutexAbortAnswer m t = onMutex m t (abortAnswer (mutexQueue m) t)

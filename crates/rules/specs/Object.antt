@@ -13,10 +13,11 @@ use Rattle.rules.specs.Time.{callerOf, markIn}
 abbrev pub onObject : (count o used answer : ℕ) → ℕ
 onObject count o used answer = cond (leb count o) beyondRange (cond (not (isUsed used)) notInUse answer)
 
+-- "create: the number is in use"
 abbrev pub createObject : (count o used : ℕ) → ℕ
 createObject count o used = cond (leb count o) beyondRange (cond (isUsed used) inUse done)
 
--- A yes/no byte.
+-- "a yes/no byte above 1"
 abbrev pub yesNo : ℕ → ℕ → ℕ
 yesNo byte answer = cond (ltb 1 byte) badValue answer
 
@@ -26,7 +27,7 @@ hasWaiter q t = not (eqb (firstIn q t) 0)
 -- ---- "Wait takes a yes/no for blocking, and a time limit; 0 means for ever, else a due mark as for a delay. A non-blocking wait
 -- ignores its limit."
 
--- A wait that finds nothing to take: 8 before 7.
+-- A wait that finds nothing to take: "a wait 8 before 7"; 14: "a wait is accepted and blocks".
 abbrev pub waitAnswer : ℕ → Table → ℕ
 waitAnswer block t = cond (eqb block 0) nothingToTake (cond (isLocked t) whileLocked blocks)
 
@@ -43,6 +44,7 @@ taken t = put (callerOf t) (withOutcome given (taskOf t (callerOf t))) t
 
 -- ---- "Abort: the first waiter leaves, the chain from the holder moves, the waiter becomes plain, outcome 2."
 
+-- "abort without a waiter"
 abbrev pub abortAnswer : ℕ → Table → ℕ
 abortAnswer q t = cond (not (hasWaiter q t)) nothingToUndo done
 
@@ -51,6 +53,7 @@ abort q t = ended aborted (firstIn q t - 1) t
 
 -- ---- "Forced delete: the same for each waiter from the first, outcome 3, then the object goes"
 
+-- "unforced delete of an object with waiters"
 abbrev pub deleteAnswer : (force q : ℕ) → Table → ℕ
 deleteAnswer force q t = yesNo force (cond (eqb force 0 && hasWaiter q t) stillNeeded done)
 

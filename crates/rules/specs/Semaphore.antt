@@ -12,11 +12,15 @@ use Rattle.rules.specs.Object.{onObject, createObject, yesNo, hasWaiter,
 abbrev pub onSemaphore : ℕ → Table → ℕ → ℕ
 onSemaphore s t answer = onObject semaphoreCount s (semaphoreOf t s .used) answer
 
+-- ---- "10 semaphore create (number, count 4 bytes)": it has the count that is given, and no waiter
+
 unfoldable pub semaphoreCreateAnswer : ℕ → Table → ℕ
 semaphoreCreateAnswer s t = createObject semaphoreCount s (semaphoreOf t s .used)
 
 unfoldable pub semaphoreCreate : ℕ → ℕ → Table → Table
 semaphoreCreate s n t = withSemaphore s (counting n) t
+
+-- ---- "the same for each waiter from the first, outcome 3, then the object goes"
 
 unfoldable pub semaphoreDeleteAnswer : ℕ → ℕ → Table → ℕ
 semaphoreDeleteAnswer s force t = onSemaphore s t (deleteAnswer force (semaphoreQueue s) t)
@@ -41,6 +45,7 @@ semaphoreWait s limit t =
 
 -- ---- "Semaphore post: the first waiter is given it (outcome 0, count unchanged), else count plus 1."
 
+-- "semaphore post at count 4,294,967,295"
 unfoldable pub semaphorePostAnswer : ℕ → Table → ℕ
 semaphorePostAnswer s t = onSemaphore s t (cond (leb mostCount (semaphoreOf t s .count)) countFull done)
 
@@ -49,6 +54,8 @@ semaphorePost s t =
     let gives = ended given (firstIn (semaphoreQueue s) t - 1) t in
     let counts = withSemaphore s (counting (semaphoreOf t s .count + 1)) t in
     cond (hasWaiter (semaphoreQueue s) t) gives counts
+
+-- ---- "Abort: the first waiter leaves .. the waiter becomes plain, outcome 2."
 
 unfoldable pub semaphoreAbortAnswer : ℕ → Table → ℕ
 semaphoreAbortAnswer s t = onSemaphore s t (abortAnswer (semaphoreQueue s) t)

@@ -63,50 +63,67 @@ objectDeleted = 3
 
 -- ---- "Answer numbers"
 
+-- 0: "done"
 abbrev pub done : ℕ
 done = 0
 
+-- 1: "a task or object number beyond its range, or (port only) a call kind that the tape's list lacks"
 abbrev pub beyondRange : ℕ
 beyondRange = 1
 
+-- 2: "the number is not in use"
 abbrev pub notInUse : ℕ
 notInUse = 2
 
+-- 3: "create: the number is in use"
 abbrev pub inUse : ℕ
 inUse = 3
 
+-- 4: "base priority above 62, a yes/no byte above 1, a delay of 0 ticks, or (port only) a quantum above 65,535"
 abbrev pub badValue : ℕ
 badValue = 4
 
+-- 5: "made by an interrupt, and not a tick or a semaphore post"
 abbrev pub byInterrupt : ℕ
 byInterrupt = 5
 
+-- 6: "yield, delay, semaphore or mutex wait, mutex post: none is running"
 abbrev pub noneRunning : ℕ
 noneRunning = 6
 
+-- 7: "lock depth above 0: yield, delay, a wait that would block, suspend or delete of the running task"
 abbrev pub whileLocked : ℕ
 whileLocked = 7
 
+-- 8: "a non-blocking wait finds nothing to take"
 abbrev pub nothingToTake : ℕ
 nothingToTake = 8
 
+-- 9: "mutex post by a task that is not its holder"
 abbrev pub notItsHolder : ℕ
 notItsHolder = 9
 
+-- 10: "the 251st nesting of a mutex, lock or suspend"
 abbrev pub nestedTooDeep : ℕ
 nestedTooDeep = 10
 
+-- 11: "semaphore post at count 4,294,967,295"
 abbrev pub countFull : ℕ
 countFull = 11
 
+-- 12: "nothing to undo: unlock at depth 0, resume at suspend count 0, delay resume of a task not delayed, abort without a waiter, yield
+-- without another able task of the same working priority"
 abbrev pub nothingToUndo : ℕ
 nothingToUndo = 12
 
+-- 13: "unforced delete of an object with waiters; delete of a task that holds a mutex"
 abbrev pub stillNeeded : ℕ
 stillNeeded = 13
 
+-- 14: "a wait is accepted and blocks; a delay answers 0"
 abbrev pub blocks : ℕ
 blocks = 14
 
+-- 15: "the table is not sound, or its image has the wrong length"
 abbrev pub notSound : ℕ
 notSound = 15

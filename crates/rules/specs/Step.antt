@@ -1,8 +1,8 @@
 -- A call: its answer, its effect, and the step that the kernel makes.
 use mathlib.Core.Bool.{Bool, true, false, cond, not, _&&_, _||_}
-use Prim.Native.Nat.{ℕ}
+use Prim.Native.Nat.{ℕ, _<_}
 use lib.Dec.{eqb}
-use Rattle.rules.specs.Sizes.{done, byInterrupt, blocks, notSound}
+use Rattle.rules.specs.Sizes.{ticksRound, done, byInterrupt, blocks, notSound}
 use Rattle.rules.specs.Table.{Table}
 use Rattle.rules.specs.Move.{chosen}
 use Rattle.rules.specs.Task.{createAnswer, create, deleteAnswer, delete, priorityAnswer, changePriority, suspendAnswer, suspend, resumeAnswer, resume}
@@ -93,6 +93,30 @@ answer c interrupt t = cond (interrupt && not (forInterrupts c)) byInterrupt (an
 -- "Last, at depth 0, the first able task runs."
 unfoldable pub effect : Call → Table → Table
 effect c t = chosen (changeBy c t)
+
+-- "numbers have 32 bits": what a call's own numbers may be. Each other number is tested against a smaller range before it is stored.
+unfoldable pub Bounded : Call → Type 0
+Bounded (Delay n) = n < ticksRound
+Bounded (SemaphoreCreate s n) = n < ticksRound
+Bounded (SemaphoreWait s block limit) = limit < ticksRound
+Bounded (MutexWait m block limit) = limit < ticksRound
+Bounded (TaskCreate i base quantum) = Unit {0}
+Bounded (TaskDelete i) = Unit {0}
+Bounded (ChangePriority i base) = Unit {0}
+Bounded (Suspend i) = Unit {0}
+Bounded (Resume i) = Unit {0}
+Bounded Yield = Unit {0}
+Bounded (DelayResume i) = Unit {0}
+Bounded Lock = Unit {0}
+Bounded Unlock = Unit {0}
+Bounded Tick = Unit {0}
+Bounded (SemaphoreDelete s force) = Unit {0}
+Bounded (SemaphorePost s) = Unit {0}
+Bounded (SemaphoreAbort s) = Unit {0}
+Bounded (MutexCreate m) = Unit {0}
+Bounded (MutexDelete m force) = Unit {0}
+Bounded (MutexPost m) = Unit {0}
+Bounded (MutexAbort m) = Unit {0}
 
 -- The answer, the new table, and the task to run: its number plus 1, 0 for none.
 pub record Outcome : Type 0 where

@@ -20,6 +20,7 @@ isLocked t = not (eqb (t .depth) 0)
 abbrev pub created : ℕ → ℕ → Task
 created base quantum = withUsed 1 (withBase base (withWork base (withQuantum quantum (withLeft quantum noTask))))
 
+-- "beyond its range", "in use", "base priority above 62", "(port only) a quantum above 65,535"
 unfoldable pub createAnswer : ℕ → ℕ → ℕ → Table → ℕ
 createAnswer i base quantum t =
     cond (leb taskCount i) beyondRange
@@ -36,6 +37,7 @@ unfoldable pub holdsBelow : ℕ → ℕ → Table → Bool
 holdsBelow zero i t = false
 holdsBelow (suc n) i t = let before = holdsBelow n i t in cond (eqb (mutexOf t n .holder) (written i)) true before
 
+-- "lock depth above 0: .. delete of the running task", "delete of a task that holds a mutex"; "task delete 7 before 13"
 unfoldable pub deleteAnswer : ℕ → Table → ℕ
 deleteAnswer i t =
     onTask i t
@@ -47,6 +49,7 @@ delete i t = walk (next t i) (put i noTask t)
 
 -- ---- "Change priority: the base changes, the chain from that task moves; an unchanged working priority moves nothing."
 
+-- "base priority above 62"
 unfoldable pub priorityAnswer : ℕ → ℕ → Table → ℕ
 priorityAnswer i base t = onTask i t (cond (ltb lastPriority base) badValue done)
 
@@ -56,6 +59,7 @@ changePriority i base t = walk i (put i (withBase base (taskOf t i)) t)
 -- ---- "Suspend adds 1; resume takes 1. A waiter that is suspended stays in its queue, its time goes on, and it may be given the
 -- object."
 
+-- "lock depth above 0: .. suspend .. of the running task", "the 251st nesting of a .. suspend"
 unfoldable pub suspendAnswer : ℕ → Table → ℕ
 suspendAnswer i t =
     onTask i t
@@ -65,6 +69,7 @@ suspendAnswer i t =
 unfoldable pub suspend : ℕ → Table → Table
 suspend i t = put i (withSuspend (taskOf t i .suspend + 1) (taskOf t i)) t
 
+-- "resume at suspend count 0"
 unfoldable pub resumeAnswer : ℕ → Table → ℕ
 resumeAnswer i t = onTask i t (cond (eqb (taskOf t i .suspend) 0) nothingToUndo done)
 

@@ -20,6 +20,7 @@ markIn n t = (t .tick + n) % ticksRound
 
 -- ---- "Yield: the caller goes behind its equals, left = quantum."
 
+-- "yield 7 before 12"; "yield without another able task of the same working priority"
 unfoldable pub yieldAnswer : Table → ℕ
 yieldAnswer t =
     byCaller t
@@ -31,6 +32,7 @@ yield t = rotate (callerOf t) t
 
 -- ---- "Delay n, 1 to 4,294,967,295: the due mark is the counter plus n, wrapped at 2^32."
 
+-- "a delay of 0 ticks", "lock depth above 0: .. delay"
 unfoldable pub delayAnswer : ℕ → Table → ℕ
 delayAnswer n t = byCaller t (cond (eqb n 0) badValue (cond (isLocked t) whileLocked done))
 
@@ -39,6 +41,7 @@ delay n t = put (callerOf t) (withState delayed 0 (withMark 1 (markIn n t) (task
 
 -- ---- "Delay resume ends a delay, outcome 0."
 
+-- "delay resume of a task not delayed"
 unfoldable pub delayResumeAnswer : ℕ → Table → ℕ
 delayResumeAnswer i t = onTask i t (cond (not (eqb (taskOf t i .state) delayed)) nothingToUndo done)
 

@@ -1,6 +1,6 @@
 // The records and calls that the rules and the code share. What they mean stands in specs/.
 
-// A task. Numbers of tasks and objects that may be none are written plus 1, with 0 for none; so is whoever holds or runs.
+// A task. `object` is the number of the object that it waits for, and `due` its due mark; each is 0 where there is none.
 pub struct Task {
     pub used: u8,
     pub base: u8,
@@ -20,6 +20,7 @@ pub struct Semaphore {
     pub count: u32,
 }
 
+// The holder is a task's number plus 1, or 0 for none.
 pub struct Mutex {
     pub used: u8,
     pub holder: u8,
