@@ -1,0 +1,60 @@
+-- The entries of the table: what is written shows, and what is read is shown. Assumes nothing.
+use mathlib.Core.Path.{_≡_, refl, ap, _∙_}
+use mathlib.Core.List.{List, [], _∷_, _++_, append-nil}
+use Prim.Native.Nat.{ℕ, suc, _+_, _≤_, _<_}
+use native.Mathlib.Nat.{add-zero}
+use native.Mathlib.Omega.{arith}
+use lib.ListN.{length, getD, set, drop-of-length-le}
+use lib.Seq.{sets, sets-eq}
+use borrow.Rule.Slice.PartMut.{putMid}
+use Rattle.rules.specs.declared.Task.{Task}
+use Rattle.rules.specs.declared.Semaphore.{Semaphore}
+use Rattle.rules.specs.declared.Mutex.{Mutex}
+use Rattle.rules.specs.Table.{withWork}
+use Rattle.table.specs.Parts.{part, wordAt, bytesOf}
+use Rattle.table.specs.Image.{Fitting, taskIn, taskCell, semaphoreIn, semaphoreCell, mutexIn, mutexCell}
+use Rattle.table.specs.PartLaws.{part-at}
+use Rattle.table.proofs.Changes.{word-back}
+
+-- ---- there and back
+
+pub task-back : (work : ℕ) (k : Task) → Fitting k → taskIn work (taskCell k) ≡ withWork work k
+unfolding taskIn taskCell part bytesOf
+task-back work k f = rw (word-back 2 (k .quantum) 3 (taskCell k) (f .quantum) refl, word-back 2 (k .left) 5 (taskCell k) (f .left) refl, word-back 4 (k .due) 10 (taskCell k) (f .due) refl)
+
+pub semaphore-back : (x : Semaphore) → x .count < 4294967296 → semaphoreIn (semaphoreCell x) ≡ x
+unfolding semaphoreIn semaphoreCell part bytesOf
+semaphore-back x h = rw (word-back 4 (x .count) 1 (semaphoreCell x) h refl)
+
+pub mutex-back : (x : Mutex) → mutexIn (mutexCell x) ≡ x
+unfolding mutexIn mutexCell
+mutex-back x = refl
+
+-- ---- what is written
+
+-- Every number stored, one by one.
+pub all-stored : (vs l : List ℕ) → length l ≡ length vs → sets l 0 vs ≡ vs
+all-stored vs l h =
+    let n : length l ≤ 0 + length vs = omega arith in
+    sets-eq vs l 0 (omega arith) ∙ ap (λ (r : List ℕ). vs ++ r) (drop-of-length-le l n) ∙ append-nil vs
+
+-- The first number stored, and the n others as a part.
+pub first-stored : (n x : ℕ) (l ys : List ℕ) → length l ≡ suc n → putMid 1 n (set l 0 x) ys ≡ x ∷ ys
+first-stored n x [] ys h = absurd (omega arith)
+first-stored n x (y ∷ l) ys h =
+    let k : length l ≤ n = omega arith in
+    ap (λ (r : List ℕ). x ∷ (ys ++ r)) (drop-of-length-le l k) ∙ ap (λ (r : List ℕ). x ∷ r) (append-nil ys)
+
+-- ---- what is read
+
+module _ (l : List ℕ) (a : ℕ) where
+  at-first : (n : ℕ) → 0 < n → getD (part a n l) 0 0 ≡ getD l a 0
+  at-first n h = part-at a n l 0 h ∙ ap (λ (j : ℕ). getD l j 0) (add-zero a)
+
+  pub semaphore-read : semaphoreIn (part a 5 l) ≡ record { used = getD l a 0; count = wordAt 4 0 (getD l (a + 1) 0 ∷ getD l (a + 2) 0 ∷ getD l (a + 3) 0 ∷ getD l (a + 4) 0 ∷ []) }
+  unfolding semaphoreIn wordAt
+  semaphore-read = rw (at-first 5 (omega arith), part-at a 5 l 1 (omega arith), part-at a 5 l 2 (omega arith), part-at a 5 l 3 (omega arith), part-at a 5 l 4 (omega arith))
+
+  pub mutex-read : mutexIn (part a 3 l) ≡ record { used = getD l a 0; holder = getD l (a + 1) 0; nesting = getD l (a + 2) 0 }
+  unfolding mutexIn
+  mutex-read = rw (at-first 3 (omega arith), part-at a 3 l 1 (omega arith), part-at a 3 l 2 (omega arith))

@@ -1,0 +1,4 @@
+pub mod Changes
+pub mod Entries
+pub mod Stores
+pub mod Places

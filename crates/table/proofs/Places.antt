@@ -1,0 +1,121 @@
+-- How tasks change their places, in the image and in the table. Assumes nothing.
+use mathlib.Core.Path.{_≡_, refl, sym, ap, ap₂, subst, _∙_}
+use mathlib.Core.Bool.{true, false}
+use mathlib.Core.List.{List, [], _∷_, map}
+use Prim.Native.Nat.{ℕ, zero, suc, _+_, _≤_, _<_}
+use native.Mathlib.Nat.{add-zero}
+use native.Mathlib.Omega.{arith}
+use lib.ListN.{length, getD, take}
+use lib.Seq.{ext-getD, getD-take, length-take-le, getD-set-same, set-set, map-set-same}
+use borrow.Author.Tests.{lt-ltb, le-ltb, eq-eqb, ne-eqb}
+use borrow.Rule.Slice.PartMut.{putMid}
+use Rattle.queue.specs.Slots.{placeBehind, opened, behind, without}
+use Rattle.queue.specs.Lengths.{length-behind, length-without}
+use Rattle.rules.specs.declared.Task.{Task}
+use Rattle.rules.specs.Table.{Table, taskOf, queueOf, works, placeOf, firstIn, noTask, withTask, withQueue, withRunning, withLeft}
+use Rattle.rules.specs.Move.{leave, join, stays, put, rotate, chosen}
+use Rattle.table.specs.Parts.{part, tabulate}
+use Rattle.table.specs.Image.{Image, queueAt, taskIn, view}
+use Rattle.table.specs.PartLaws.{part-at, tabulate-at, tabulate-length}
+use Rattle.table.specs.Shape.{view-queue, view-slots}
+use Rattle.table.proofs.Stores.{store-queue}
+
+-- ---- the working priorities are the first 32 bytes
+
+map-tabulate : {A B : Type 0} (h : A → B) (n : ℕ) (f : ℕ → A) → map h (tabulate n f) ≡ tabulate n (λ i. h (f i))
+unfolding tabulate
+map-tabulate h zero f = refl
+map-tabulate {A} {B} h (suc n) f = ap (λ (l : List B). h (f 0) ∷ l) (map-tabulate h n (λ k. f (suc k)))
+
+pub view-works : (l : List ℕ) → Image l → works (view l) ≡ take 32 l
+unfolding view works taskIn
+view-works l h =
+    map-tabulate (λ (k : Task). k .work) 32 _
+    ∙ ext-getD 0 (tabulate 32 (λ i. getD l i 0)) (take 32 l) (n ∙ sym (length-take-le 32 l (omega arith))) (λ i p. go i (subst (λ (z : ℕ). i < z) n p))
+  where
+    n : length (tabulate 32 (λ i. getD l i 0)) ≡ 32
+    n = tabulate-length 32 (λ i. getD l i 0)
+
+    go : (i : ℕ) → i < 32 → getD (tabulate 32 (λ i. getD l i 0)) i 0 ≡ getD (take 32 l) i 0
+    go i p = tabulate-at 32 (λ i. getD l i 0) i 0 p ∙ sym (getD-take 32 l i 0 p)
+
+pub view-work : (l : List ℕ) (i : ℕ) → i < 32 → Image l → getD (works (view l)) i 0 ≡ getD l i 0
+view-work l i h hl = ap (λ (z : List ℕ). getD z i 0) (view-works l hl) ∙ getD-take 32 l i 0 h
+
+pub view-first : (l : List ℕ) (q : ℕ) → q < 33 → firstIn q (view l) ≡ getD l (queueAt q) 0
+view-first l q h = ap (λ (z : List ℕ). getD z 0 0) (view-queue l q h) ∙ part-at (queueAt q) 32 l 0 (omega arith) ∙ ap (λ (z : ℕ). getD l z 0) (add-zero (queueAt q))
+
+-- ---- leaving and joining
+
+module _ (q i : ℕ) (t : Table) where
+  pub leave-is : q < 33 → leave q i t ≡ withQueue q (without i (queueOf t q)) t
+  unfolding leave
+  leave-is h = rw (lt-ltb q 33 h)
+
+  pub leave-not : 33 ≤ q → leave q i t ≡ t
+  unfolding leave
+  leave-not h = rw (le-ltb q 33 h)
+
+  pub join-is : q < 33 → join q i t ≡ withQueue q (behind (works t) i (queueOf t q)) t
+  unfolding join
+  join-is h = rw (lt-ltb q 33 h)
+
+  pub join-not : 33 ≤ q → join q i t ≡ t
+  unfolding join
+  join-not h = rw (le-ltb q 33 h)
+
+-- The slots that come back of a lent queue.
+module _ (l : List ℕ) (q i : ℕ) (ys : List ℕ) (h : q < 33) (hl : Image l) where
+  pub left-queue : ys ≡ without i (part (queueAt q) 32 l) → view (putMid (queueAt q) 32 l ys) ≡ leave q i (view l)
+  left-queue e =
+      let y : ys ≡ without i (queueOf (view l) q) = e ∙ ap (without i) (sym (view-queue l q h)) in
+      let n : length ys ≡ 32 = ap length y ∙ length-without i (queueOf (view l) q) ∙ view-slots l hl q h in
+      store-queue l q ys hl h n ∙ ap (λ (z : List ℕ). withQueue q z (view l)) y ∙ sym (leave-is q i (view l) h)
+
+  pub joined-queue : (at : ℕ) → at ≡ placeBehind (works (view l)) (getD (works (view l)) i 0) (queueOf (view l) q) → ys ≡ opened at (i + 1) (part (queueAt q) 32 l) → view (putMid (queueAt q) 32 l ys) ≡ join q i (view l)
+  joined-queue at e d =
+      let y : ys ≡ behind (works (view l)) i (queueOf (view l) q) = d ∙ ap₂ (λ (a : ℕ) (z : List ℕ). opened a (i + 1) z) e (sym (view-queue l q h)) in
+      let n : length ys ≡ 32 = ap length y ∙ length-behind (works (view l)) i (queueOf (view l) q) ∙ view-slots l hl q h in
+      store-queue l q ys hl h n ∙ ap (λ (z : List ℕ). withQueue q z (view l)) y ∙ sym (join-is q i (view l) h)
+
+-- ---- the ways through a put
+
+module _ (i : ℕ) (k : Task) (t : Table) where
+  pub put-stays : i < 32 → stays (taskOf t i) k ≡ true → put i k t ≡ withTask i k t
+  unfolding put
+  put-stays l h = rw (lt-ltb i 32 l, h)
+
+  pub put-moves : i < 32 → stays (taskOf t i) k ≡ false → put i k t ≡ join (placeOf k) i (leave (placeOf (taskOf t i)) i (withTask i k t))
+  unfolding put
+  put-moves l h = rw (lt-ltb i 32 l, h)
+
+  pub put-not : 32 ≤ i → put i k t ≡ t
+  unfolding put
+  put-not l = rw (le-ltb i 32 l)
+
+-- A rotation leaves the able queue and joins it again.
+pub rotate-is : (i : ℕ) (t : Table) → i < 32 → 0 < length (t .queues) → rotate i t ≡ join 0 i (leave 0 i (withTask i (withLeft (taskOf t i .quantum) (taskOf t i)) t))
+unfolding rotate works
+rotate-is i t l h =
+    let u : Table = withTask i (withLeft (taskOf t i .quantum) (taskOf t i)) t in
+    let w : works u ≡ works t = map-set-same (λ (k : Task). k .work) (t .tasks) i _ noTask refl in
+    let x : List ℕ = without i (queueOf t 0) in
+    sym
+    (ap (join 0 i) (leave-is 0 i u (omega arith))
+    ∙ join-is 0 i _ (omega arith)
+    ∙ ap₂ (λ (keys old : List ℕ). withQueue 0 (behind keys i old) (withQueue 0 x u)) w (getD-set-same (t .queues) 0 x [] h)
+    ∙ rw (set-set, lt-ltb i 32 l))
+
+pub rotate-not : (i : ℕ) (t : Table) → 32 ≤ i → rotate i t ≡ t
+unfolding rotate
+rotate-not i t l = rw (le-ltb i 32 l)
+
+-- ---- who runs
+
+pub chosen-is : (t : Table) → t .depth ≡ 0 → chosen t ≡ withRunning (firstIn 0 t) t
+unfolding chosen
+chosen-is t h = rw (eq-eqb (t .depth) 0 h)
+
+pub chosen-not : (t : Table) → (t .depth ≡ 0 → ⊥) → chosen t ≡ t
+unfolding chosen
+chosen-not t h = rw (ne-eqb (t .depth) 0 h)

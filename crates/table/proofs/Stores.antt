@@ -1,0 +1,186 @@
+-- How a store shows in the view: one law for each component that a change elsewhere leaves, and one for each setter. Assumes nothing.
+use mathlib.Core.Path.{_≡_, refl, sym, ap, ap₂, _∙_}
+use mathlib.Core.Logic.{inl, inr}
+use mathlib.Core.Bool.{Bool, true, false, cond, _&&_}
+use mathlib.Core.List.{List}
+use Prim.Native.Nat.{ℕ, _+_, _≤_, _<_}
+use native.Mathlib.Omega.{arith}
+use lib.Dec.{ltb}
+use borrow.Author.Tests.{ltb-false}
+use lib.ListN.{length, getD, set, length-set}
+use lib.Seq.{getD-set-same, getD-set-other, set-set}
+use borrow.Rule.Slice.PartMut.{putMid}
+use Rattle.rules.specs.declared.Task.{Task}
+use Rattle.rules.specs.declared.Semaphore.{Semaphore}
+use Rattle.rules.specs.declared.Mutex.{Mutex}
+use Rattle.rules.specs.Table.{Table, taskOf, withWork, withTask, withSemaphore, withMutex, withQueue, withTick, withDepth, withRunning}
+use Rattle.table.specs.Parts.{part, bytesOf}
+use Rattle.table.specs.Image.{Image, Fitting, cellAt, semaphoreAt, mutexAt, queueAt, tickAt, depthAt, runningAt, taskIn, taskCell, semaphoreIn, semaphoreCell, mutexIn, mutexCell, view}
+use Rattle.table.specs.Shape.{view-task, view-tick, view-depth, view-running}
+use Rattle.table.proofs.Entries.{task-back, semaphore-back, mutex-back}
+use Rattle.table.proofs.Changes.{Changed, Apart, set-changed, put-changed, put-there, byte-kept, word-kept, word-back, part-kept, tabulate-set, array-same, array-put}
+
+-- ---- what a change elsewhere leaves, component by component
+
+module _ {a n : ℕ} {l m : List ℕ} (h : Image l) (c : Changed a n l m) where
+  tasks-same : Apart a n 0 512 → view m .tasks ≡ view l .tasks
+  unfolding view
+  tasks-same o =
+      array-same 32 15 32 l m (omega arith) (λ k. taskIn (getD l k 0)) (λ k. taskIn (getD m k 0)) (λ k p. ap taskIn (work k p o)) c (cells o)
+    where
+      work : (k : ℕ) → k < 32 → Apart a n 0 512 → getD m k 0 ≡ getD l k 0
+      work k p (inl q) = c .rest k (inl (omega arith))
+      work k p (inr q) = c .rest k (inr (omega arith))
+
+      cells : Apart a n 0 512 → Apart a n 32 480
+      cells (inl q) = inl q
+      cells (inr q) = inr (omega arith)
+
+  semaphores-same : Apart a n 512 80 → view m .semaphores ≡ view l .semaphores
+  unfolding view
+  semaphores-same o = array-same 512 5 16 l m (omega arith) (λ _. semaphoreIn) (λ _. semaphoreIn) (λ k p. refl) c o
+
+  mutexes-same : Apart a n 592 48 → view m .mutexes ≡ view l .mutexes
+  unfolding view
+  mutexes-same o = array-same 592 3 16 l m (omega arith) (λ _. mutexIn) (λ _. mutexIn) (λ k p. refl) c o
+
+  queues-same : Apart a n 640 1056 → view m .queues ≡ view l .queues
+  unfolding view
+  queues-same o = array-same 640 32 33 l m (omega arith) (λ _ x. x) (λ _ x. x) (λ k p. refl) c o
+
+  tick-same : Apart a n 1696 4 → view m .tick ≡ view l .tick
+  unfolding view
+  tick-same o = word-kept c 1696 4 o
+
+  depth-same : Apart a n 1700 1 → view m .depth ≡ view l .depth
+  unfolding view
+  depth-same o = byte-kept c 1700 1 o 0 (omega arith)
+
+  running-same : Apart a n 1701 1 → view m .running ≡ view l .running
+  unfolding view
+  running-same o = byte-kept c 1701 1 o 0 (omega arith)
+
+-- ---- all components at once
+
+-- Whether the w numbers from s on lie in part between b and e.
+abbrev meets : ℕ → ℕ → ℕ → ℕ → Bool
+meets b e s w = ltb b (s + w) && ltb s e
+
+-- The components of t, but those between b and e of u.
+abbrev only : ℕ → ℕ → Table → Table → Table
+only b e u t =
+    record {
+      tasks = cond (meets b e 0 512) (u .tasks) (t .tasks);
+      semaphores = cond (meets b e 512 80) (u .semaphores) (t .semaphores);
+      mutexes = cond (meets b e 592 48) (u .mutexes) (t .mutexes);
+      queues = cond (meets b e 640 1056) (u .queues) (t .queues);
+      tick = cond (meets b e 1696 4) (u .tick) (t .tick);
+      depth = cond (meets b e 1700 1) (u .depth) (t .depth);
+      running = cond (meets b e 1701 1) (u .running) (t .running);
+    }
+
+module _ {a n : ℕ} {l m : List ℕ} (b e : ℕ) (h : Image l) (c : Changed a n l m) (p : b ≤ a) (q : a + n ≤ e) where
+  -- Where the test fails the change lies apart, so that the old component is the new one.
+  kept : {A : Type 0} {x y : A} (s w : ℕ) → (Apart a n s w → x ≡ y) → x ≡ cond (meets b e s w) x y
+  kept {A} {x} {y} s w f = go (ltb b (s + w)) refl (ltb s e) refl
+    where
+      go : (i : Bool) → ltb b (s + w) ≡ i → (j : Bool) → ltb s e ≡ j → x ≡ cond (i && j) x y
+      go true u true v = refl
+      go true u false v = f (inr (omega (arith, ltb-false s e v)))
+      go false u j v = f (inl (omega (arith, ltb-false b (s + w) u)))
+
+  -- A change between b and e shows in the components between b and e.
+  frame : view m ≡ only b e (view m) (view l)
+  frame = λ k.
+      record {
+        tasks = kept 0 512 (tasks-same h c) k;
+        semaphores = kept 512 80 (semaphores-same h c) k;
+        mutexes = kept 592 48 (mutexes-same h c) k;
+        queues = kept 640 1056 (queues-same h c) k;
+        tick = kept 1696 4 (tick-same h c) k;
+        depth = kept 1700 1 (depth-same h c) k;
+        running = kept 1701 1 (running-same h c) k;
+      }
+
+-- ---- a task: its working priority, its cell, then both
+
+module _ (l : List ℕ) (i v : ℕ) (hl : Image l) (h : i < 32) where
+  cells-kept : (k : ℕ) → k < 32 → part (cellAt k) 15 (set l i v) ≡ part (cellAt k) 15 l
+  cells-kept k p = part-kept (set-changed l i v) (cellAt k) 15 (inr (omega arith)) (omega arith)
+
+  tasks-work : view (set l i v) .tasks ≡ set (view l .tasks) i (withWork v (taskOf (view l) i))
+  unfolding view taskIn
+  tasks-work =
+      tabulate-set 32 _ _ i h (λ k p o. ap₂ taskIn (getD-set-other l i k v 0 o) (cells-kept k p))
+      ∙ ap (set (view l .tasks) i) (ap₂ taskIn (getD-set-same l i v 0 (omega arith)) (cells-kept i h) ∙ ap (withWork v) (sym (view-task l i h)))
+
+  store-work : view (set l i v) ≡ withTask i (withWork v (taskOf (view l) i)) (view l)
+  store-work = frame 0 512 hl (set-changed l i v) (omega arith) (omega arith) ∙ rw tasks-work
+
+module _ (l : List ℕ) (i : ℕ) (k : Task) (hl : Image l) (h : i < 32) (f : Fitting k) where
+  cell-changed : Changed (cellAt i) 15 l (putMid (cellAt i) 15 l (taskCell k))
+  unfolding taskCell bytesOf
+  cell-changed = put-changed (cellAt i) 15 l (taskCell k) (omega arith) refl
+
+  tasks-cell : view (putMid (cellAt i) 15 l (taskCell k)) .tasks ≡ set (view l .tasks) i (withWork (getD l i 0) k)
+  unfolding view taskCell bytesOf
+  tasks-cell =
+      array-put 32 15 32 l (taskCell k) i (omega arith) refl h (λ j. taskIn (getD l j 0)) (λ j. taskIn (getD (putMid (cellAt i) 15 l (taskCell k)) j 0)) (λ j p. ap taskIn (cell-changed .rest j (inl (omega arith))))
+      ∙ ap (set (view l .tasks) i) (task-back (getD l i 0) k f)
+
+  store-cell : view (putMid (cellAt i) 15 l (taskCell k)) ≡ withTask i (withWork (getD l i 0) k) (view l)
+  store-cell = frame 0 512 hl cell-changed (omega arith) (omega arith) ∙ rw tasks-cell
+
+pub store-task : (l : List ℕ) (i : ℕ) (k : Task) → Image l → i < 32 → Fitting k → view (putMid (cellAt i) 15 (set l i (k .work)) (taskCell k)) ≡ withTask i k (view l)
+store-task l i k hl h f =
+    let s : List ℕ = set l i (k .work) in
+    let e : getD s i 0 ≡ k .work = getD-set-same l i (k .work) 0 (omega arith) in
+    store-cell s i k (length-set l i (k .work) ∙ hl) h f
+    ∙ ap₂ (λ (w : ℕ) (t : Table). withTask i (withWork w k) t) e (store-work l i (k .work) hl h)
+    ∙ rw set-set
+
+-- ---- the other setters
+
+module _ (l : List ℕ) (i : ℕ) (x : Semaphore) (hl : Image l) (h : i < 16) (f : x .count < 4294967296) where
+  semaphores-put : view (putMid (semaphoreAt i) 5 l (semaphoreCell x)) .semaphores ≡ set (view l .semaphores) i x
+  unfolding view semaphoreCell bytesOf
+  semaphores-put =
+      array-put 512 5 16 l (semaphoreCell x) i (omega arith) refl h (λ _. semaphoreIn) (λ _. semaphoreIn) (λ j p. refl)
+      ∙ ap (set (view l .semaphores) i) (semaphore-back x f)
+
+  pub store-semaphore : view (putMid (semaphoreAt i) 5 l (semaphoreCell x)) ≡ withSemaphore i x (view l)
+  unfolding semaphoreCell bytesOf
+  store-semaphore = frame 512 592 hl (put-changed (semaphoreAt i) 5 l (semaphoreCell x) (omega arith) refl) (omega arith) (omega arith) ∙ rw semaphores-put
+
+module _ (l : List ℕ) (i : ℕ) (x : Mutex) (hl : Image l) (h : i < 16) where
+  mutexes-put : view (putMid (mutexAt i) 3 l (mutexCell x)) .mutexes ≡ set (view l .mutexes) i x
+  unfolding view mutexCell
+  mutexes-put =
+      array-put 592 3 16 l (mutexCell x) i (omega arith) refl h (λ _. mutexIn) (λ _. mutexIn) (λ j p. refl)
+      ∙ ap (set (view l .mutexes) i) (mutex-back x)
+
+  pub store-mutex : view (putMid (mutexAt i) 3 l (mutexCell x)) ≡ withMutex i x (view l)
+  unfolding mutexCell
+  store-mutex = frame 592 640 hl (put-changed (mutexAt i) 3 l (mutexCell x) (omega arith) refl) (omega arith) (omega arith) ∙ rw mutexes-put
+
+module _ (l : List ℕ) (q : ℕ) (ys : List ℕ) (hl : Image l) (h : q < 33) (n : length ys ≡ 32) where
+  queues-put : view (putMid (queueAt q) 32 l ys) .queues ≡ set (view l .queues) q ys
+  unfolding view
+  queues-put = array-put 640 32 33 l ys q (omega arith) n h (λ _ x. x) (λ _ x. x) (λ j p. refl)
+
+  pub store-queue : view (putMid (queueAt q) 32 l ys) ≡ withQueue q ys (view l)
+  store-queue = frame 640 1696 hl (put-changed (queueAt q) 32 l ys (omega arith) n) (omega arith) (omega arith) ∙ rw queues-put
+
+module _ (l : List ℕ) (n : ℕ) (hl : Image l) where
+  pub store-tick : n < 4294967296 → view (putMid tickAt 4 l (bytesOf 4 n)) ≡ withTick n (view l)
+  unfolding bytesOf
+  store-tick h =
+      let m : List ℕ = putMid tickAt 4 l (bytesOf 4 n) in
+      frame 1696 1700 hl (put-changed tickAt 4 l (bytesOf 4 n) (omega arith) refl) (omega arith) (omega arith)
+      ∙ rw (view-tick m, word-back 4 n tickAt m h (put-there tickAt 4 l (bytesOf 4 n) (omega arith) refl))
+
+  pub store-depth : view (set l depthAt n) ≡ withDepth n (view l)
+  store-depth = frame 1700 1701 hl (set-changed l depthAt n) (omega arith) (omega arith) ∙ rw (view-depth (set l depthAt n), getD-set-same l depthAt n 0 (omega arith))
+
+  pub store-running : view (set l runningAt n) ≡ withRunning n (view l)
+  store-running = frame 1701 1702 hl (set-changed l runningAt n) (omega arith) (omega arith) ∙ rw (view-running (set l runningAt n), getD-set-same l runningAt n 0 (omega arith))

@@ -1,0 +1,28 @@
+use mathlib.Core.Path.{sym}
+use native.Mathlib.Omega.{arith}
+use lib.ListN.{length, List·getD-eq-default}
+use Prim.Native.Nat.{_≤_}
+use Rattle.rules.specs.Table.{noMutex}
+use Rattle.table.specs.Image.{view}
+use Rattle.table.specs.Shape.{view-shaped}
+use borrow.Author.Needs.{needs}
+use Rattle.table.proofs.cells.mutex_at.Statement.{statement}
+use Rattle.table.proofs.cells.mutex_at.Tie as tie
+use Rattle.table.proofs.cells.mutex_at.Reads as reads
+use Rattle.table.proofs.cells.mutex_at.Lts as lts
+use Rattle.table.proofs.cells.get_mutex.Reads as get-mutex-reads
+
+get-mutex-requires : tie.Need-get-mutex-requires
+get-mutex-requires c κs = search needs
+
+returns : tie.Need-returns
+returns c = search needs
+
+returns-2 : tie.Need-returns-2
+returns-2 c =
+    let a = c .before .before .args in
+    let h : length (view (a .s .now) .mutexes) ≤ a .i = omega (arith, view-shaped (a .s .now) (omega arith) .mutexes) in
+    sym (List·getD-eq-default (view (a .s .now) .mutexes) noMutex h)
+
+pub mutex-at-spec : {M : Type 1} → statement M
+mutex-at-spec = tie.close (tie.spec get-mutex-requires returns returns-2)

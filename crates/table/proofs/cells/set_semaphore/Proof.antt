@@ -1,0 +1,59 @@
+use mathlib.Core.Path.{ap, _∙_}
+use mathlib.Core.List.{List}
+use Prim.Native.Nat.{ℕ, _+_, _-_}
+use native.Mathlib.Omega.{arith}
+use borrow.Rule.Slice.PartMut.{putMid}
+use Rattle.table.specs.Image.{semaphoreAt, semaphoreCell, view}
+use Rattle.table.proofs.Changes.{put-lent}
+use Rattle.table.proofs.Stores.{store-semaphore}
+use borrow.Author.Needs.{needs}
+use Rattle.table.proofs.cells.set_semaphore.Statement.{statement}
+use Rattle.table.proofs.cells.set_semaphore.Tie as tie
+use Rattle.table.proofs.cells.set_semaphore.Reads as reads
+use Rattle.table.proofs.cells.set_semaphore.Lts as lts
+use Rattle.table.proofs.cells.write_semaphore.Reads as write-semaphore-reads
+
+mul-a : tie.Need-mul-a
+mul-a c = search needs
+
+add-a : tie.Need-add-a
+add-a c = search needs
+
+add-e : tie.Need-add-e
+add-e c = search needs
+
+sub-write-semaphore : tie.Need-sub-write-semaphore
+sub-write-semaphore c = search needs
+
+part-write-semaphore-start : tie.Need-part-write-semaphore-start
+part-write-semaphore-start c = search needs
+
+part-write-semaphore-end : tie.Need-part-write-semaphore-end
+part-write-semaphore-end c = search needs
+
+write-semaphore-requires : tie.Need-write-semaphore-requires
+write-semaphore-requires c κs = search needs
+
+same-length : tie.Need-same-length
+same-length c = search needs
+
+returns : tie.Need-returns
+returns c =
+    let a = c .before .before .before .before .before .args in
+    ap (λ (ys : List ℕ). view (putMid (semaphoreAt (a .i)) (semaphoreAt (a .i) + 5 - semaphoreAt (a .i)) (a .s .now) ys)) (c .before .before .write-semaphore .ensures .0)
+    ∙ ap view (put-lent (semaphoreAt (a .i)) 5 (a .s .now) (semaphoreCell (a .x)))
+    ∙ store-semaphore (a .s .now) (a .i) (a .x) (omega arith) (omega arith) (c .before .before .write-semaphore .ensures .1)
+
+pub set-semaphore-spec : {M : Type 1} → statement M
+set-semaphore-spec =
+    tie.close
+    (tie.spec
+    mul-a
+    add-a
+    add-e
+    sub-write-semaphore
+    part-write-semaphore-start
+    part-write-semaphore-end
+    write-semaphore-requires
+    same-length
+    returns)
