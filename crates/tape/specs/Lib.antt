@@ -1,0 +1,4 @@
+pub mod Next
+pub mod Line
+pub mod Play
+pub mod Prints
