@@ -1,15 +1,16 @@
 -- A change of some numbers of a list, and what it leaves: the parts, words and entries of an array apart from it. Assumes nothing.
-use mathlib.Core.Path.{_≡_, refl, sym, ap, ap₂, subst, _∙_}
+use mathlib.Core.Path.{_≡_, sym, ap, ap₂, _∙_}
 use mathlib.Core.Logic.{_⊎_, inl, inr, ⊎-elim}
 use mathlib.Core.List.{List, _∷_, _++_}
-use Prim.Native.Nat.{ℕ, zero, suc, _+_, _-_, _*_, _≤_, _<_, _%_, _/_, _^_}
-use native.Mathlib.Nat.{not-suc-le-zero, zero-add, add-zero, add-suc, suc-add, suc-mul, mul-le-mul-right, pow-suc}
+use Prim.Native.Nat.{ℕ, zero, suc, _+_, _-_, _*_, _≤_, _<_}
+use native.Mathlib.Nat.{not-suc-le-zero, suc-mul, mul-le-mul-right}
 use native.Mathlib.Omega.{arith}
 use lib.ListN.{length, getD, set, take, drop, length-set, List·getD-append}
 use lib.Seq.{ext-getD, getD-take, getD-drop, length-take-le, getD-append-add, getD-set-other, take-at, drop-at, drop-drop}
 use borrow.Rule.Slice.PartMut.{putMid, same-len-mid}
-use Rattle.table.specs.Parts.{part, tabulate, wordAt, bytesOf}
+use Rattle.table.specs.Parts.{part, tabulate, wordAt}
 use Rattle.table.specs.PartLaws.{lt-or-le, part-length, part-at, tabulate-same}
+use Rattle.table.specs.Words.{word-agree}
 
 -- ---- what changed
 
@@ -52,33 +53,6 @@ part-lent a n l = let e : a + n - a ≡ n = omega arith in rw e
 
 pub put-lent : (a n : ℕ) (l ys : List ℕ) → putMid a (a + n - a) l ys ≡ putMid a n l ys
 put-lent a n l ys = let e : a + n - a ≡ n = omega arith in rw e
-
--- ---- words
-
--- Lists that agree have the same word.
-pub word-agree : (w a b : ℕ) (l m : List ℕ) → ((i : ℕ) → i < w → getD m (a + i) 0 ≡ getD l (b + i) 0) → wordAt w a m ≡ wordAt w b l
-unfolding wordAt
-word-agree zero a b l m f = refl
-word-agree (suc w) a b l m f =
-    ap₂ (λ (x y : ℕ). x + 256 * y)
-    (rw (add-zero a, add-zero b) at (f 0 (omega arith)))
-    (word-agree w (suc a) (suc b) l m (λ i p. rw (suc-add a i, suc-add b i, ← add-suc a i, ← add-suc b i) (f (suc i) (omega arith))))
-
--- The word of a number's bytes.
-word-of-bytes : (w n : ℕ) → n < 256 ^ w → wordAt w 0 (bytesOf w n) ≡ n
-unfolding wordAt bytesOf
-word-of-bytes zero n h = omega (arith, h)
-word-of-bytes (suc w) n h =
-    let p : n < 256 ^ w * 256 = subst (λ (z : ℕ). n < z) (pow-suc 256 w) h in
-    let q : wordAt w 1 (n % 256 ∷ bytesOf w (n / 256)) ≡ n / 256 =
-    word-agree w 1 0 (bytesOf w (n / 256)) (n % 256 ∷ bytesOf w (n / 256)) (λ i o. rw (suc-add 0 i)) ∙ word-of-bytes w (n / 256) (omega arith) in
-    rw q (omega arith)
-
--- Where the bytes of a number stand, the word is that number.
-pub word-back : (w n a : ℕ) (l : List ℕ) → n < 256 ^ w → part a w l ≡ bytesOf w n → wordAt w a l ≡ n
-word-back w n a l h e =
-    word-agree w a 0 (bytesOf w n) l (λ i p. sym (part-at a w l i p) ∙ ap (λ (z : List ℕ). getD z i 0) e ∙ ap (λ (z : ℕ). getD (bytesOf w n) z 0) (sym (zero-add i)))
-    ∙ word-of-bytes w n h
 
 -- ---- what a change leaves
 

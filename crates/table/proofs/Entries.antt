@@ -1,5 +1,5 @@
--- The entries of the table: what is written shows, and what is read is shown. Assumes nothing.
-use mathlib.Core.Path.{_≡_, refl, ap, _∙_}
+-- The entries of the table: what is written, and what is read. Assumes nothing.
+use mathlib.Core.Path.{_≡_, ap, _∙_}
 use mathlib.Core.List.{List, [], _∷_, _++_, append-nil}
 use Prim.Native.Nat.{ℕ, suc, _+_, _≤_, _<_}
 use native.Mathlib.Nat.{add-zero}
@@ -7,28 +7,9 @@ use native.Mathlib.Omega.{arith}
 use lib.ListN.{length, getD, set, drop-of-length-le}
 use lib.Seq.{sets, sets-eq}
 use borrow.Rule.Slice.PartMut.{putMid}
-use Rattle.rules.specs.declared.Task.{Task}
-use Rattle.rules.specs.declared.Semaphore.{Semaphore}
-use Rattle.rules.specs.declared.Mutex.{Mutex}
-use Rattle.rules.specs.Table.{withWork}
-use Rattle.table.specs.Parts.{part, wordAt, bytesOf}
-use Rattle.table.specs.Image.{Fitting, taskIn, taskCell, semaphoreIn, semaphoreCell, mutexIn, mutexCell}
+use Rattle.table.specs.Parts.{part, wordAt}
+use Rattle.table.specs.Image.{semaphoreIn, mutexIn}
 use Rattle.table.specs.PartLaws.{part-at}
-use Rattle.table.proofs.Changes.{word-back}
-
--- ---- there and back
-
-pub task-back : (work : ℕ) (k : Task) → Fitting k → taskIn work (taskCell k) ≡ withWork work k
-unfolding taskIn taskCell part bytesOf
-task-back work k f = rw (word-back 2 (k .quantum) 3 (taskCell k) (f .quantum) refl, word-back 2 (k .left) 5 (taskCell k) (f .left) refl, word-back 4 (k .due) 10 (taskCell k) (f .due) refl)
-
-pub semaphore-back : (x : Semaphore) → x .count < 4294967296 → semaphoreIn (semaphoreCell x) ≡ x
-unfolding semaphoreIn semaphoreCell part bytesOf
-semaphore-back x h = rw (word-back 4 (x .count) 1 (semaphoreCell x) h refl)
-
-pub mutex-back : (x : Mutex) → mutexIn (mutexCell x) ≡ x
-unfolding mutexIn mutexCell
-mutex-back x = refl
 
 -- ---- what is written
 

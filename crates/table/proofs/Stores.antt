@@ -17,8 +17,8 @@ use Rattle.rules.specs.Table.{Table, taskOf, withWork, withTask, withSemaphore,
 use Rattle.table.specs.Parts.{part, bytesOf}
 use Rattle.table.specs.Image.{Image, Fitting, cellAt, semaphoreAt, mutexAt, queueAt, tickAt, depthAt, runningAt, taskIn, taskCell, semaphoreIn, semaphoreCell, mutexIn, mutexCell, view}
 use Rattle.table.specs.Shape.{view-task, view-tick, view-depth, view-running}
-use Rattle.table.proofs.Entries.{task-back, semaphore-back, mutex-back}
-use Rattle.table.proofs.Changes.{Changed, Apart, set-changed, put-changed, put-there, byte-kept, word-kept, word-back, part-kept, tabulate-set, array-same, array-put}
+use Rattle.table.specs.Words.{word-back, task-back, semaphore-back, mutex-back}
+use Rattle.table.proofs.Changes.{Changed, Apart, set-changed, put-changed, put-there, byte-kept, word-kept, part-kept, tabulate-set, array-same, array-put}
 
 -- ---- what a change elsewhere leaves, component by component
 

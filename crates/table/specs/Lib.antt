@@ -1,5 +1,8 @@
 pub mod Parts
 pub mod Image
 pub mod PartLaws
+pub mod Words
+pub mod Pieces
 pub mod Shape
 pub mod Lossless
+pub mod Written

@@ -53,7 +53,7 @@ mutex-forth b = refl
 below : {P : Type 0} (j b : ℕ) → (j < b → P) → (b ≤ j → P) → P
 below j b f g = ⊎-elim f g (lt-or-le j b)
 
-part-bytes : (a n : ℕ) (l : List ℕ) → Bytes l → Bytes (part a n l)
+pub part-bytes : (a n : ℕ) (l : List ℕ) → Bytes l → Bytes (part a n l)
 part-bytes a n l h j =
     below j n
     (λ p. subst (λ (z : ℕ). z < 256) (sym (part-at a n l j p)) (h (a + j)))

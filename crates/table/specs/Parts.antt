@@ -1,5 +1,5 @@
--- Parts of a list, lists made by a rule, and numbers of several bytes, the lowest first.
-use mathlib.Core.List.{List, [], _∷_}
+-- Parts of a list, lists made by a rule, lists in a row, and numbers of several bytes, the lowest first.
+use mathlib.Core.List.{List, [], _∷_, _++_}
 use Prim.Native.Nat.{ℕ, zero, suc, _+_, _*_, _/_, _%_}
 use lib.ListN.{getD, take, drop}
 
@@ -11,6 +11,11 @@ part a n l = take n (drop a l)
 unfoldable pub tabulate {ℓ} : {A : Type ℓ} → ℕ → (ℕ → A) → List A
 tabulate zero f = []
 tabulate (suc n) f = f zero ∷ tabulate n (λ k. f (suc k))
+
+-- The lists in a row.
+unfoldable pub joined : List (List ℕ) → List ℕ
+joined [] = []
+joined (p ∷ ls) = p ++ joined ls
 
 -- The number of the w bytes from a on.
 unfoldable pub wordAt : ℕ → ℕ → List ℕ → ℕ

@@ -1,0 +1,7 @@
+mod Ends
+mod Chains
+mod Endings
+mod ServiceLaws
+mod TaskLaws
+mod MutexLaws
+mod TickLaws

@@ -1,0 +1,59 @@
+use Rattle.rules.specs.Mutex.{mutexPostAnswer}
+use Rattle.table.specs.Image.{view}
+use Rattle.calls.proofs.ServiceLaws.{refuse, serve, goes-on, caller-in-range}
+use borrow.Author.Needs.{needs}
+use Rattle.calls.proofs.mutex.post_mutex.Statement.{statement}
+use Rattle.calls.proofs.mutex.post_mutex.Tie as tie
+use Rattle.calls.proofs.mutex.post_mutex.Reads as reads
+use Rattle.calls.proofs.mutex.post_mutex.Lts as lts
+use Rattle.calls.proofs.mutex.post_answer.Reads as post-answer-reads
+use Rattle.calls.proofs.mutex.post_change.Reads as post-change-reads
+use Rattle.calls.proofs.object.refuses.Reads as refuses-reads
+use Rattle.table.proofs.moves.choose.Reads as choose-reads
+
+post-answer-requires : tie.Need-post-answer-requires
+post-answer-requires c κs = search needs
+
+refuses-requires : tie.Need-refuses-requires
+refuses-requires c κs = search needs
+
+same-length : tie.Need-same-length
+same-length c = search needs
+
+returns : tie.Need-returns
+returns c =
+    let r = c .before in
+    refuse (r .before .post-answer .ensures) (r .refuses .ensures) (c .if1 .taken)
+
+post-change-requires : tie.Need-post-change-requires
+unfolding mutexPostAnswer
+post-change-requires c κs =
+    let e = c .before in
+    let r = e .before in
+    let a = r .before .before .before .before .args in
+    (caller-in-range 16 (a .i) _ (view (a .s .now)) (goes-on (r .before .post-answer .ensures) (r .refuses .ensures) (e .if1 .left)), r .before .before .before .before .pre)
+
+choose-requires : tie.Need-choose-requires
+choose-requires c κs = search needs
+
+same-length-2 : tie.Need-same-length-2
+same-length-2 c = search needs
+
+returns-2 : tie.Need-returns-2
+returns-2 c =
+    let e = c .before .before .before .before .before .before .before .before in
+    let r = e .before in
+    serve (r .before .post-answer .ensures) (r .refuses .ensures) (e .if1 .left) (cc)
+
+pub post-mutex-spec : {M : Type 1} → statement M
+post-mutex-spec =
+    tie.close
+    (tie.spec
+    post-answer-requires
+    refuses-requires
+    same-length
+    returns
+    post-change-requires
+    choose-requires
+    same-length-2
+    returns-2)

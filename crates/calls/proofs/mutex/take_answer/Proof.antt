@@ -1,0 +1,50 @@
+use borrow.Author.Tests.{le-leb, lt-leb, eq-eqb, ne-eqb, not-true, not-false}
+use borrow.Author.Needs.{needs}
+use Rattle.calls.proofs.mutex.take_answer.Statement.{statement}
+use Rattle.calls.proofs.mutex.take_answer.Tie as tie
+use Rattle.calls.proofs.mutex.take_answer.Reads as reads
+use Rattle.calls.proofs.mutex.take_answer.Lts as lts
+use Rattle.calls.proofs.mutex.is_own.Reads as is-own-reads
+use Rattle.calls.proofs.object.wait_answer.Reads as wait-answer-reads
+use Rattle.table.proofs.cells.get_mutex.Reads as get-mutex-reads
+
+get-mutex-requires : tie.Need-get-mutex-requires
+get-mutex-requires c κs = search needs
+
+returns : tie.Need-returns
+returns c = rw (← c .before .before .get-mutex .ensures, eq-eqb _ _ (c .if1 .taken))
+
+is-own-requires : tie.Need-is-own-requires
+is-own-requires c κs = search needs
+
+wait-answer-requires : tie.Need-wait-answer-requires
+wait-answer-requires c κs = search needs
+
+returns-2 : tie.Need-returns-2
+returns-2 c =
+    let o = c .before .before in
+    rw (← o .is-own .ensures, ← o .before .before .before .get-mutex .ensures, ne-eqb _ _ (o .before .if1 .left), not-true (o .is-own .result) (c .before .if2 .taken)) (c .wait-answer .ensures)
+
+returns-3 : tie.Need-returns-3
+returns-3 c =
+    let e = c .before .before in
+    let o = e .before in
+    rw (← o .is-own .ensures, ← o .before .before .before .get-mutex .ensures, ne-eqb _ _ (o .before .if1 .left), not-false (o .is-own .result) (e .if2 .left), le-leb _ _ (c .if3 .taken))
+
+returns-4 : tie.Need-returns-4
+returns-4 c =
+    let e = c .before .before in
+    let o = e .before in
+    rw (← o .is-own .ensures, ← o .before .before .before .get-mutex .ensures, ne-eqb _ _ (o .before .if1 .left), not-false (o .is-own .result) (e .if2 .left), lt-leb _ _ (c .if3 .left))
+
+pub take-answer-spec : {M : Type 1} → statement M
+take-answer-spec =
+    tie.close
+    (tie.spec
+    get-mutex-requires
+    returns
+    is-own-requires
+    wait-answer-requires
+    returns-2
+    returns-3
+    returns-4)

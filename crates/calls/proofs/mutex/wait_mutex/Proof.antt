@@ -1,0 +1,61 @@
+use Rattle.rules.specs.Mutex.{mutexWaitAnswer}
+use Rattle.table.specs.Image.{view}
+use Rattle.calls.proofs.ServiceLaws.{refuse, serve, goes-on, caller-in-range}
+use Rattle.calls.proofs.MutexLaws.{wait-room}
+use borrow.Author.Needs.{needs}
+use Rattle.calls.proofs.mutex.wait_mutex.Statement.{statement}
+use Rattle.calls.proofs.mutex.wait_mutex.Tie as tie
+use Rattle.calls.proofs.mutex.wait_mutex.Reads as reads
+use Rattle.calls.proofs.mutex.wait_mutex.Lts as lts
+use Rattle.calls.proofs.mutex.wait_answer.Reads as wait-answer-reads
+use Rattle.calls.proofs.mutex.wait_change.Reads as wait-change-reads
+use Rattle.calls.proofs.object.refuses.Reads as refuses-reads
+use Rattle.table.proofs.moves.choose.Reads as choose-reads
+
+wait-answer-requires : tie.Need-wait-answer-requires
+wait-answer-requires c κs = search needs
+
+refuses-requires : tie.Need-refuses-requires
+refuses-requires c κs = search needs
+
+same-length : tie.Need-same-length
+same-length c = search needs
+
+returns : tie.Need-returns
+returns c =
+    let r = c .before in
+    refuse (r .before .wait-answer .ensures) (r .refuses .ensures) (c .if1 .taken)
+
+wait-change-requires : tie.Need-wait-change-requires
+unfolding mutexWaitAnswer
+wait-change-requires c κs =
+    let e = c .before in
+    let r = e .before in
+    let a = r .before .before .before .before .args in
+    let go = goes-on (r .before .wait-answer .ensures) (r .refuses .ensures) (e .if1 .left) in
+    (caller-in-range 16 (a .i) _ (view (a .s .now)) go, r .before .before .before .before .pre, wait-room (a .i) (view (a .s .now)) (a .block) go)
+
+choose-requires : tie.Need-choose-requires
+choose-requires c κs = search needs
+
+same-length-2 : tie.Need-same-length-2
+same-length-2 c = search needs
+
+returns-2 : tie.Need-returns-2
+returns-2 c =
+    let e = c .before .before .before .before .before .before .before .before in
+    let r = e .before in
+    serve (r .before .wait-answer .ensures) (r .refuses .ensures) (e .if1 .left) (cc)
+
+pub wait-mutex-spec : {M : Type 1} → statement M
+wait-mutex-spec =
+    tie.close
+    (tie.spec
+    wait-answer-requires
+    refuses-requires
+    same-length
+    returns
+    wait-change-requires
+    choose-requires
+    same-length-2
+    returns-2)

@@ -1,0 +1,123 @@
+// What the calls on semaphores and on mutexes share.
+ghost use mathlib.Core.Path.{_≡_};
+ghost use mathlib.Core.Bool.{not};
+ghost use Prim.Native.Nat.{_-_, _<_};
+ghost use Rattle.rules.specs.Table.{firstIn};
+ghost use Rattle.rules.specs.Step.{changes};
+ghost use Rattle.rules.specs.Object.{hasWaiter, waitAnswer, limited, blocked, taken, abortAnswer, abort, deleteAnswer};
+ghost use Rattle.table.specs.Image.{Image, view};
+use crate::ending;
+use crate::time;
+use table::cells;
+use table::moves;
+
+// Whether a call with this answer is refused.
+pub fn refuses(n: u8) -> bool
+    ensures { λ r. ⌜ r ≡ not (changes n) ⌝ }
+{
+    !((n == 0) | (n == 14))
+}
+
+pub fn has_waiter(s: &[u8], q: usize) -> bool
+    requires { ⌜ (q < 33) × Image (now s) ⌝ }
+    ensures { λ r. ⌜ r ≡ hasWaiter q (view (now (s .entry))) ⌝ }
+{
+    !(moves::first_in(s, q) == 0)
+}
+
+// The answer of a wait that finds nothing to take.
+pub fn wait_answer(s: &[u8], block: u32) -> u8
+    requires { ⌜ Image (now s) ⌝ }
+    ensures { λ r. ⌜ r ≡ waitAnswer block (view (now (s .entry))) ⌝ }
+{
+    if block == 0 {
+        return 8;
+    }
+    if !(cells::get_depth(s) == 0) {
+        return 7;
+    }
+    14
+}
+
+// A task with the due mark of a time limit, where it has one.
+fn with_limit(s: &[u8], limit: u32, k: rules::Task) -> rules::Task
+    requires { ⌜ Image (now s) ⌝ }
+    ensures { λ r. ⌜ r ≡ limited limit (view (now (s .entry))) k ⌝ }
+{
+    let mut x = k;
+    if limit == 0 {
+        x.marked = 0;
+        x.due = 0;
+        return x;
+    }
+    x.marked = 1;
+    x.due = time::mark_in(s, limit);
+    x
+}
+
+// The caller leaves the able queue and goes behind its equals in the object's queue.
+pub fn block_on(s: &mut [u8], state: u8, object: u8, limit: u32)
+    requires { ⌜ Image (now s) ⌝ }
+    ensures { λ _. ⌜ view (now (s .exit)) ≡ blocked state object limit (view (now (s .entry))) ⌝ }
+{
+    let i = time::caller_of(s);
+    let mut k = with_limit(s, limit, cells::task_at(s, i));
+    k.state = state;
+    k.object = object;
+    moves::put_task(s, i, k);
+}
+
+// The caller takes the object at once: outcome 0.
+pub fn take_now(s: &mut [u8])
+    requires { ⌜ Image (now s) ⌝ }
+    ensures { λ _. ⌜ view (now (s .exit)) ≡ taken (view (now (s .entry))) ⌝ }
+{
+    let i = time::caller_of(s);
+    let mut k = cells::task_at(s, i);
+    k.outcome = 0;
+    moves::put_task(s, i, k);
+}
+
+pub fn abort_answer(s: &[u8], q: usize) -> u8
+    requires { ⌜ (q < 33) × Image (now s) ⌝ }
+    ensures { λ r. ⌜ r ≡ abortAnswer q (view (now (s .entry))) ⌝ }
+{
+    if !has_waiter(s, q) {
+        return 12;
+    }
+    0
+}
+
+// The task in front of queue q; 0 where the queue is empty.
+pub fn first_task(s: &[u8], q: usize) -> usize
+    requires { ⌜ (q < 33) × Image (now s) ⌝ }
+    ensures { λ r. ⌜ r ≡ firstIn q (view (now (s .entry))) - 1 ⌝ }
+{
+    let v = moves::first_in(s, q);
+    if v == 0 {
+        return 0;
+    }
+    v as usize - 1
+}
+
+// The wait of the first waiter of queue q ends: aborted.
+pub fn abort_first(s: &mut [u8], q: usize)
+    requires { ⌜ (q < 33) × Image (now s) ⌝ }
+    ensures { λ _. ⌜ view (now (s .exit)) ≡ abort q (view (now (s .entry))) ⌝ }
+{
+    let i = first_task(s, q);
+    ending::end_wait(s, 2, i);
+}
+
+pub fn delete_answer(s: &[u8], force: u32, q: usize) -> u8
+    requires { ⌜ (q < 33) × Image (now s) ⌝ }
+    ensures { λ r. ⌜ r ≡ deleteAnswer force q (view (now (s .entry))) ⌝ }
+{
+    if 1 < force {
+        return 4;
+    }
+    if (force == 0) & has_waiter(s, q) {
+        return 13;
+    }
+    0
+}

@@ -1,0 +1,156 @@
+// Yield, delay, delay resume.
+ghost use mathlib.Core.Path.{_≡_};
+ghost use mathlib.Core.Bool.{not, _&&_};
+ghost use lib.Dec.{eqb};
+ghost use Prim.Native.Nat.{_<_};
+ghost use Rattle.rules.specs.Table.{taskOf, isAble};
+ghost use Rattle.rules.specs.Move.{chosen, peerBelow};
+ghost use Rattle.rules.specs.Time.{callerOf, markIn, yieldAnswer, yield, delayAnswer, delay, delayResumeAnswer, delayResume};
+ghost use Rattle.table.specs.Image.{Image, view};
+ghost use Rattle.calls.specs.Served.{Served};
+use crate::ending;
+use crate::object;
+use table::cells;
+use table::moves;
+
+// The running task's number.
+pub fn caller_of(s: &[u8]) -> usize
+    requires { ⌜ Image (now s) ⌝ }
+    ensures { λ r. ⌜ (r ≡ callerOf (view (now (s .entry)))) × (r < 255) ⌝ }
+{
+    let v = cells::get_running(s);
+    if v == 0 {
+        return 0;
+    }
+    v as usize - 1
+}
+
+// The tick in n ticks.
+pub fn mark_in(s: &[u8], n: u32) -> u32
+    requires { ⌜ Image (now s) ⌝ }
+    ensures { λ r. ⌜ r ≡ markIn n (view (now (s .entry))) ⌝ }
+{
+    std::num::wrapping_add_u32(cells::get_tick(s), n)
+}
+
+// Whether task j is able, other than i, and of the working priority w.
+fn is_peer(s: &[u8], j: usize, i: usize, w: u8) -> bool
+    requires { ⌜ Image (now s) ⌝ }
+    ensures { λ r. ⌜ r ≡ not (eqb j i) && (isAble (taskOf (view (now (s .entry))) j) && eqb (taskOf (view (now (s .entry))) j .work) w) ⌝ }
+{
+    let k = cells::task_at(s, j);
+    let able = moves::is_able(k);
+    !(j == i) & (able & (k.work == w))
+}
+
+// Whether another able task has the working priority of task i.
+pub fn has_peer(s: &[u8], i: usize) -> bool
+    requires { ⌜ Image (now s) ⌝ }
+    ensures { λ r. ⌜ r ≡ peerBelow 32 i (view (now (s .entry))) ⌝ }
+{
+    let k = cells::task_at(s, i);
+    let w = k.work;
+    let mut j: usize = 32;
+    while 0 < j {
+        j -= 1;
+        if is_peer(s, j, i, w) {
+            return true;
+        }
+    }
+    false
+}
+
+fn yield_answer(s: &[u8]) -> u8
+    requires { ⌜ Image (now s) ⌝ }
+    ensures { λ r. ⌜ r ≡ yieldAnswer (view (now (s .entry))) ⌝ }
+{
+    if cells::get_running(s) == 0 {
+        return 6;
+    }
+    if !(cells::get_depth(s) == 0) {
+        return 7;
+    }
+    if !has_peer(s, caller_of(s)) {
+        return 12;
+    }
+    0
+}
+
+pub fn yield_turn(s: &mut [u8]) -> u8
+    requires { ⌜ Image (now s) ⌝ }
+    ensures { λ r. ⌜ Served (yieldAnswer (view (now (s .entry)))) (chosen (yield (view (now (s .entry))))) r (now (s .entry)) (now (s .exit)) ⌝ }
+{
+    let n = yield_answer(s);
+    if object::refuses(n) {
+        return n;
+    }
+    let i = caller_of(s);
+    moves::rotate_task(s, i);
+    moves::choose(s);
+    n
+}
+
+fn delay_answer(s: &[u8], n: u32) -> u8
+    requires { ⌜ Image (now s) ⌝ }
+    ensures { λ r. ⌜ r ≡ delayAnswer n (view (now (s .entry))) ⌝ }
+{
+    if cells::get_running(s) == 0 {
+        return 6;
+    }
+    if n == 0 {
+        return 4;
+    }
+    if !(cells::get_depth(s) == 0) {
+        return 7;
+    }
+    0
+}
+
+pub fn delay_by(s: &mut [u8], n: u32) -> u8
+    requires { ⌜ Image (now s) ⌝ }
+    ensures { λ r. ⌜ Served (delayAnswer n (view (now (s .entry)))) (chosen (delay n (view (now (s .entry))))) r (now (s .entry)) (now (s .exit)) ⌝ }
+{
+    let answer = delay_answer(s, n);
+    if object::refuses(answer) {
+        return answer;
+    }
+    let i = caller_of(s);
+    let mut k = cells::task_at(s, i);
+    k.state = 1;
+    k.object = 0;
+    k.marked = 1;
+    k.due = mark_in(s, n);
+    moves::put_task(s, i, k);
+    moves::choose(s);
+    answer
+}
+
+fn delay_resume_answer(s: &[u8], i: u32) -> u8
+    requires { ⌜ Image (now s) ⌝ }
+    ensures { λ r. ⌜ r ≡ delayResumeAnswer i (view (now (s .entry))) ⌝ }
+{
+    if 32 <= i {
+        return 1;
+    }
+    let k = cells::task_at(s, i as usize);
+    if !(k.used == 1) {
+        return 2;
+    }
+    if !(k.state == 1) {
+        return 12;
+    }
+    0
+}
+
+pub fn delay_resume(s: &mut [u8], i: u32) -> u8
+    requires { ⌜ Image (now s) ⌝ }
+    ensures { λ r. ⌜ Served (delayResumeAnswer i (view (now (s .entry)))) (chosen (delayResume i (view (now (s .entry))))) r (now (s .entry)) (now (s .exit)) ⌝ }
+{
+    let n = delay_resume_answer(s, i);
+    if object::refuses(n) {
+        return n;
+    }
+    ending::end_wait(s, 0, i as usize);
+    moves::choose(s);
+    n
+}
