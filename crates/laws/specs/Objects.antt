@@ -1,0 +1,235 @@
+-- Each call leaves the objects right: ObjectsRight. What a call does to the queues is taken from `Queued` of the table after it.
+use mathlib.Core.Path.{_≡_, refl, sym, ap, subst, _∙_}
+use mathlib.Core.Logic.{_⊎_, inl, inr, _≢_}
+use mathlib.Core.Bool.{true, false}
+use Prim.Native.Nat.{ℕ, _-_, _≤_, _<_}
+use native.Mathlib.Decide.{ℕ-discrete}
+use native.Mathlib.Omega.{arith}
+use lib.Dec.{eqb}
+use lib.ListN.{length}
+use lib.Seq.{set-set}
+use Rattle.rules.specs.Sizes.{taskCount, semaphoreCount, mutexCount, mostNested, mostCount, waitsSemaphore, waitsMutex, given}
+use Rattle.rules.specs.Table.{Table, taskOf, semaphoreOf, mutexOf, semaphoreQueue, mutexQueue, firstIn, written, isAble, placeOf, noSemaphore, noMutex, counting, heldBy, withSemaphore, withMutex}
+use Rattle.rules.specs.Move.{put, ready, rotate, walk, holderOf, ended}
+use Rattle.rules.specs.Sound.{Empty}
+use Rattle.rules.specs.Task.{holdsBelow, create, delete, changePriority, suspend, resume}
+use Rattle.rules.specs.Time.{callerOf, delay}
+use Rattle.rules.specs.Object.{limited, blocked, taken}
+use Rattle.rules.specs.Mutex.{released}
+use Rattle.rules.specs.Tick.{turned}
+use Rattle.rules.specs.declared.Task.{Task}
+use Rattle.rules.specs.declared.Mutex.{Mutex}
+use Rattle.laws.specs.Settled.{Queued, ObjectsRight, Settled, sized}
+use Rattle.laws.specs.Fields.{rest, framed, bare, bare-place, walk-rest, walk-size, walk-bare, put-rest, put-size}
+use Rattle.laws.specs.Put.{either}
+use Rattle.laws.specs.Becomes.{Becomes, put-becomes, then-walk, create-becomes, delete-becomes, changePriority-becomes, suspend-becomes, resume-becomes, rotate-becomes, ended-becomes, caller, caller-used, delay-becomes, blocked-becomes, taken-becomes, turned-becomes, freed, released-one, given-to}
+use Rattle.laws.specs.Stands.{able, placed-used, first-range, first-there, semaphore-unwaited, mutex-unwaited}
+use Rattle.laws.specs.Found.{holds-none}
+use Rattle.laws.specs.Linked.{MutexRight, Awaited, HeldApart, WaitRight, Linked, objects-linked, linked-objects, linked-become, holder-used, linked-same, linked-semaphore, linked-mutex}
+
+-- A change of tick, depth and running task alone.
+pub framed-objects : {t : Table} (tick depth running : ℕ) → ObjectsRight t → ObjectsRight (framed tick depth running t)
+framed-objects tick depth running o =
+    record {
+      semaphoresInUse = o .semaphoresInUse;
+      mutexesInUse = o .mutexesInUse;
+      semaphoreRanges = o .semaphoreRanges;
+      mutexRanges = o .mutexRanges;
+      freeSemaphores = o .freeSemaphores;
+      freeNumbers = o .freeNumbers;
+      freeMutexes = o .freeMutexes;
+      heldMutexes = o .heldMutexes;
+      holdersInUse = o .holdersInUse;
+      holdersApart = o .holdersApart;
+      counts = o .counts;
+    }
+
+-- ---- each call on a task
+
+-- A mutex without a holder, and one with.
+unheld : MutexRight (heldBy 0 0)
+unheld = record { used = omega arith; holder = omega arith; nesting = omega arith; free = λ z. absurd (omega arith); unheld = λ e. refl; held = λ d. absurd (d refl) }
+
+held-right : (h n : ℕ) → h ≢ 0 → h ≤ taskCount → 1 ≤ n → n ≤ mostNested → MutexRight (heldBy h n)
+held-right h n d l g k = record { used = omega arith; holder = l; nesting = k; free = λ z. absurd (omega arith); unheld = λ e. absurd (d e); held = λ e. g }
+
+-- ---- a mutex that goes to its first waiter
+
+stored-twice : (m : ℕ) (x y : Mutex) (t : Table) → withMutex m y (withMutex m x t) ≡ withMutex m y t
+stored-twice m x y t = rw (set-set (t .mutexes) m x y)
+
+-- The first waiter becomes plain, and then it is the holder.
+linked-given : {t : Table} (m w : ℕ) → Linked t → length (t .tasks) ≡ taskCount → w ≢ 0 → w ≤ taskCount → taskOf t (w - 1) .used ≡ 1 → Linked (given-to m w (freed m t))
+linked-given {t} m w old size d l u = linked-same tasks rests sizes (linked-mutex m (heldBy w 1) awake (held-right w 1 d l (omega arith) (omega arith)) waited (λ e. ap (λ (k : Task). k .used) (woken .itself) ∙ u))
+  where
+    i : ℕ
+    i = w - 1
+
+    free : Table
+    free = withMutex m (heldBy 0 0) t
+
+    woken : Becomes i (ready given (taskOf t i)) t (put i (ready given (taskOf t i)) t)
+    woken = put-becomes (omega arith) size _
+
+    awake : Linked (put i (ready given (taskOf t i)) t)
+    awake = linked-become woken old (record { semaphore = λ e. absurd (omega arith); mutex = λ e. absurd (omega arith) }) (holder-used old i)
+
+    waited : (j : ℕ) → j < taskCount → taskOf (put i (ready given (taskOf t i)) t) j .state ≡ waitsMutex → taskOf (put i (ready given (taskOf t i)) t) j .object ≡ m → HeldApart j (heldBy w 1)
+    waited j k e x =
+        record {
+          used = refl;
+          held = d;
+          apart = λ z.
+              let own : j ≡ i = omega arith in
+              omega (arith, e, ap (λ (n : ℕ). taskOf (put i (ready given (taskOf t i)) t) n .state) own, ap (λ (k : Task). k .state) (woken .itself));
+        }
+
+    tasks : (j : ℕ) → bare (taskOf (given-to m w (freed m t)) j) ≡ bare (taskOf (put i (ready given (taskOf t i)) t) j)
+    tasks j = go (ℕ-discrete j i)
+      where
+        after : Becomes i (ready given (taskOf (freed m t) i)) (withMutex m (heldBy w 1) (freed m t)) (given-to m w (freed m t))
+        after = put-becomes (omega arith) (walk-size (callerOf t) free ∙ size) _
+
+        go : Dec (j ≡ i) → bare (taskOf (given-to m w (freed m t)) j) ≡ bare (taskOf (put i (ready given (taskOf t i)) t) j)
+        go (yes e) = rw e (after .itself ∙ ap (λ (k : Task). bare (ready given k)) (walk-bare (callerOf t) free i) ∙ sym (woken .itself))
+        go (no n) = after .others j n ∙ walk-bare (callerOf t) free j ∙ sym (woken .others j n)
+
+    rests : rest (given-to m w (freed m t)) ≡ rest (withMutex m (heldBy w 1) (put i (ready given (taskOf t i)) t))
+    rests =
+        put-rest i _ _
+        ∙ ap (λ (x : Table). rest (withMutex m (heldBy w 1) x)) (walk-rest (callerOf t) free)
+        ∙ ap rest (stored-twice m (heldBy 0 0) (heldBy w 1) t)
+        ∙ sym (ap (λ (x : Table). rest (withMutex m (heldBy w 1) x)) (put-rest i _ t))
+
+    sizes : length (given-to m w (freed m t) .tasks) ≡ length (put i (ready given (taskOf t i)) t .tasks)
+    sizes = put-size i _ _ ∙ walk-size (callerOf t) free ∙ sym (put-size i _ t)
+
+module _ {t : Table} (s : Settled t) where
+  linked : Linked t
+  linked = objects-linked (s .queued) (s .objects)
+
+  -- A task that waits for no object.
+  no-wait : (i state object : ℕ) → state < waitsSemaphore → WaitRight t i state object
+  no-wait i state object l = record { semaphore = λ e. absurd (omega arith); mutex = λ e. absurd (omega arith) }
+
+  becomes-right : {i : ℕ} {k : Task} {u : Table} → Becomes i k t u → WaitRight t i (k .state) (k .object) → k .used ≡ 1 → Queued u → ObjectsRight u
+  becomes-right b may used q = linked-objects q (linked-become b linked may (λ m l e. used))
+
+  module _ (i : ℕ) (l : i < taskCount) where
+    pub create-objects : (base quantum : ℕ) → Queued (create i base quantum t) → ObjectsRight (create i base quantum t)
+    create-objects base quantum = becomes-right (create-becomes l (sized s) base quantum) (no-wait i 0 0 (omega arith)) refl
+
+    pub delete-objects : holdsBelow mutexCount i t ≡ false → Queued (delete i t) → ObjectsRight (delete i t)
+    delete-objects h q =
+        linked-objects q (linked-become (delete-becomes l (sized s)) linked (no-wait i 0 0 (omega arith)) (λ m n e. absurd (holds-none mutexCount i t h m n e)))
+
+    module _ (u : taskOf t i .used ≡ 1) where
+      pub changePriority-objects : (base : ℕ) → Queued (changePriority i base t) → ObjectsRight (changePriority i base t)
+      changePriority-objects base = becomes-right (changePriority-becomes l (sized s) base) (linked .waits i l) u
+
+      pub suspend-objects : Queued (suspend i t) → ObjectsRight (suspend i t)
+      suspend-objects = becomes-right (suspend-becomes l (sized s)) (linked .waits i l) u
+
+      pub resume-objects : Queued (resume i t) → ObjectsRight (resume i t)
+      resume-objects = becomes-right (resume-becomes l (sized s)) (linked .waits i l) u
+
+      pub rotate-objects : Queued (rotate i t) → ObjectsRight (rotate i t)
+      rotate-objects = becomes-right (rotate-becomes l (sized s)) (linked .waits i l) u
+
+      pub ended-objects : (outcome : ℕ) → Queued (ended outcome i t) → ObjectsRight (ended outcome i t)
+      ended-objects outcome = becomes-right (ended-becomes l (sized s) outcome) (no-wait i 0 0 (omega arith)) u
+
+  -- ---- calls of the running task
+
+  module _ (l : callerOf t < taskCount) (a : isAble (caller t) ≡ true) where
+    pub delay-objects : (n : ℕ) → Queued (delay n t) → ObjectsRight (delay n t)
+    delay-objects n = becomes-right (delay-becomes l (sized s) n) (no-wait _ 1 0 (omega arith)) (caller-used t a)
+
+    pub taken-objects : Queued (taken t) → ObjectsRight (taken t)
+    taken-objects = becomes-right (taken-becomes l (sized s)) (linked .waits _ l) (caller-used t a)
+
+    limited-used : (limit : ℕ) → limited limit t (caller t) .used ≡ 1
+    limited-used limit = either (λ (k : Task). k .used ≡ 1) (eqb limit 0) (caller-used t a) (caller-used t a)
+
+    pub semaphoreBlocked-objects : (o limit : ℕ) → semaphoreOf t o .used ≡ 1 → semaphoreOf t o .count ≡ 0
+        → Queued (blocked waitsSemaphore o limit t) → ObjectsRight (blocked waitsSemaphore o limit t)
+    semaphoreBlocked-objects o limit u z =
+        becomes-right (blocked-becomes l (sized s) waitsSemaphore o limit) (record { semaphore = λ e. record { used = u; count = z }; mutex = λ e. absurd (omega arith) }) (limited-used limit)
+
+    pub mutexBlocked-objects : (m limit : ℕ) → mutexOf t m .used ≡ 1 → mutexOf t m .holder ≢ 0 → mutexOf t m .holder ≢ written (callerOf t)
+        → Queued (walk (holderOf t m) (blocked waitsMutex m limit t)) → ObjectsRight (walk (holderOf t m) (blocked waitsMutex m limit t))
+    mutexBlocked-objects m limit u h d =
+        becomes-right
+        (then-walk _ (blocked-becomes l (sized s) waitsMutex m limit))
+        (record { semaphore = λ e. absurd (omega arith); mutex = λ e. record { used = u; held = h; apart = d } })
+        (limited-used limit)
+
+  pub turned-objects : callerOf t < taskCount → Queued (turned t) → ObjectsRight (turned t)
+  turned-objects l q = linked-objects q (linked-become (turned-becomes l (sized s) .1) linked (linked .waits _ l) (holder-used linked _))
+
+  -- ---- semaphores
+
+  pub counting-objects : (o n : ℕ) → o < semaphoreCount → n ≤ mostCount
+      → Empty (semaphoreQueue o) t ⊎ ((n ≡ semaphoreOf t o .count) × (semaphoreOf t o .used ≡ 1))
+      → Queued (withSemaphore o (counting n) t) → ObjectsRight (withSemaphore o (counting n) t)
+  counting-objects o n l m c q =
+      linked-objects q (linked-semaphore o (counting n) linked (record { used = omega arith; count = m; free = λ z. absurd (omega arith) }) (λ j k e x. waited j k e x c))
+    where
+      waited : (j : ℕ) → j < taskCount → taskOf t j .state ≡ waitsSemaphore → taskOf t j .object ≡ o
+          → Empty (semaphoreQueue o) t ⊎ ((n ≡ semaphoreOf t o .count) × (semaphoreOf t o .used ≡ 1))
+          → Awaited (counting n)
+      waited j k e x (inl z) = absurd (semaphore-unwaited (s .queued) o l z j k e x)
+      waited j k e x (inr (w, u)) = record { used = refl; count = w ∙ subst (λ (i : ℕ). Awaited (semaphoreOf t i)) x (linked .waits j k .semaphore e) .count }
+
+  pub semaphoreGone-objects : (o : ℕ) → o < semaphoreCount → Empty (semaphoreQueue o) t
+      → Queued (withSemaphore o noSemaphore t) → ObjectsRight (withSemaphore o noSemaphore t)
+  semaphoreGone-objects o l z q =
+      linked-objects q (linked-semaphore o noSemaphore linked (record { used = omega arith; count = omega arith; free = λ e. refl }) (λ j k e x. absurd (semaphore-unwaited (s .queued) o l z j k e x)))
+
+  -- ---- mutexes
+
+  module _ (m : ℕ) (l : m < mutexCount) where
+    -- Who waits for it.
+    waiter : (j : ℕ) → j < taskCount → taskOf t j .state ≡ waitsMutex → taskOf t j .object ≡ m → HeldApart j (mutexOf t m)
+    waiter j k e x = subst (λ (i : ℕ). HeldApart j (mutexOf t i)) x (linked .waits j k .mutex e)
+
+    pub mutexCreated-objects : mutexOf t m .used ≡ 0 → Queued (withMutex m (heldBy 0 0) t) → ObjectsRight (withMutex m (heldBy 0 0) t)
+    mutexCreated-objects z q =
+        linked-objects q (linked-mutex m (heldBy 0 0) linked unheld (λ j k e x. absurd (omega (arith, waiter j k e x .used))) (λ d. absurd (d refl)))
+
+    pub mutexTaken-objects : mutexOf t m .holder ≡ 0 → (i : ℕ) → i < taskCount → isAble (taskOf t i) ≡ true
+        → Queued (withMutex m (heldBy (written i) 1) t) → ObjectsRight (withMutex m (heldBy (written i) 1) t)
+    mutexTaken-objects z i n a q =
+        linked-objects q
+        (linked-mutex m (heldBy (written i) 1) linked (held-right (written i) 1 (omega arith) (omega arith) (omega arith) (omega arith)) (λ j k e x. absurd (waiter j k e x .held z)) (λ d. subst (λ (j : ℕ). taskOf t j .used ≡ 1) (omega arith) (able (taskOf t i) .holds a .used)))
+
+    pub mutexNested-objects : mutexOf t m .holder ≢ 0 → (n : ℕ) → 1 ≤ n → n ≤ mostNested
+        → Queued (withMutex m (heldBy (mutexOf t m .holder) n) t) → ObjectsRight (withMutex m (heldBy (mutexOf t m .holder) n) t)
+    mutexNested-objects h n g k q =
+        linked-objects q
+        (linked-mutex m (heldBy (mutexOf t m .holder) n) linked (held-right (mutexOf t m .holder) n h (linked .mutexes m l .holder) g k) (λ j k e x. let w = waiter j k e x in record { used = refl; held = w .held; apart = w .apart }) (linked .holders m l))
+
+    pub mutexGone-objects : Empty (mutexQueue m) t
+        → Queued (walk (holderOf t m) (withMutex m noMutex t)) → ObjectsRight (walk (holderOf t m) (withMutex m noMutex t))
+    mutexGone-objects z q =
+        linked-objects q
+        (linked-same (walk-bare (holderOf t m) (withMutex m noMutex t)) (walk-rest (holderOf t m) (withMutex m noMutex t)) (walk-size (holderOf t m) (withMutex m noMutex t))
+        (linked-mutex m noMutex linked (record { used = omega arith; holder = omega arith; nesting = omega arith; free = λ e. refl; unheld = λ e. refl; held = λ d. absurd (d refl) }) (λ j k e x. absurd (mutex-unwaited (s .queued) m l z j k e x)) (λ d. absurd (d refl))))
+
+    pub released-objects : Queued (freed m t) → Queued (released m t) → ObjectsRight (released m t)
+    released-objects f q = linked-objects q (released-one Linked m t none one)
+      where
+        same : (j : ℕ) → bare (taskOf (freed m t) j) ≡ bare (taskOf t j)
+        same = walk-bare (callerOf t) (withMutex m (heldBy 0 0) t)
+
+        none : firstIn (mutexQueue m) (freed m t) ≡ 0 → Linked (freed m t)
+        none z =
+            linked-same same (walk-rest (callerOf t) (withMutex m (heldBy 0 0) t)) (walk-size (callerOf t) (withMutex m (heldBy 0 0) t))
+            (linked-mutex m (heldBy 0 0) linked unheld (λ j k e x. absurd (mutex-unwaited f m l z j k (ap (λ (y : Task). y .state) (same j) ∙ e) (ap (λ (y : Task). y .object) (same j) ∙ x))) (λ d. absurd (d refl)))
+
+        one : firstIn (mutexQueue m) (freed m t) ≢ 0 → Linked (given-to m (firstIn (mutexQueue m) (freed m t)) (freed m t))
+        one d =
+            let w = firstIn (mutexQueue m) (freed m t) in
+            let n : w ≤ taskCount = first-range f (mutexQueue m) (omega arith) in
+            let there : placeOf (taskOf t (w - 1)) ≡ mutexQueue m = sym (bare-place (taskOf t (w - 1))) ∙ sym (ap placeOf (same (w - 1))) ∙ bare-place (taskOf (freed m t) (w - 1)) ∙ first-there f (mutexQueue m) (omega arith) d in
+            linked-given m w linked (sized s) d n (placed-used (s .tasks (w - 1) (omega arith)) (omega arith))

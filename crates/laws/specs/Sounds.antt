@@ -1,0 +1,63 @@
+-- Every call leaves a sound table sound, and its answer is not 15. The fresh table is sound. Assumes nothing.
+use mathlib.Core.Path.{_≡_, refl}
+use mathlib.Core.Bool.{Bool, true, false, cond}
+use Prim.Native.Nat.{_<_}
+use Rattle.queue.specs.Order.{count, mayPrecede, fits, isOrdered}
+use Rattle.rules.specs.Sizes.{notSound}
+use Rattle.rules.specs.Chain.{leads, smallest, fresh}
+use Rattle.rules.specs.Table.{Table, freshTable, ableQueue, firstIn, isAble, placeOf, works}
+use Rattle.rules.specs.Move.{holderOf, next, freshIn, chosen}
+use Rattle.rules.specs.Sound.{Sound, each, isShaped, objectsIn, marksIn, isTaskInRange, isInRange, isNoTask, isNoSemaphore, isNoMutex, isFreeZero, isQueued, isWaited, isWorked, isHeldRight, isTimed, runsRight, isSound}
+use Rattle.rules.specs.Tested.{sound-tested, tested-sound}
+use Rattle.rules.specs.Step.{changes, changeBy, answer, effect, Bounded, serve, step}
+use Rattle.rules.specs.declared.Call.{Call}
+use Rattle.laws.specs.Settled.{Settled, NotDue, settled-sound}
+use Rattle.laws.specs.Running.{chosen-runs, chosen-one}
+use Rattle.laws.specs.Kept.{list-settled}
+use Rattle.laws.specs.Ending.{Unchosen}
+use Rattle.laws.specs.Accepted.{accepts}
+use Rattle.laws.specs.Calls.{change-unchosen}
+
+-- ---- the choice of the running task
+
+-- Once the running task is chosen, the table is sound.
+pub chosen-sound : {t : Table} → Unchosen t → Sound (chosen t)
+chosen-sound {t} u =
+    let h = u .settled in
+    settled-sound
+    (chosen-one Settled t h (list-settled h (t .tick) (t .depth) (firstIn ableQueue t) (h .tick) (h .depth)))
+    (chosen-one NotDue t (u .notDue) (u .notDue))
+    (chosen-runs (h .queued) (u .runs))
+
+-- ---- a call
+
+module _ {t : Table} (s : Sound t) (c : Call) where
+  -- A call that is served leaves the table sound.
+  pub serve-sound : Bounded c → (interrupt : Bool) → Sound (serve c interrupt t .table)
+  unfolding serve effect
+  serve-sound b interrupt = go (changes (answer c interrupt t)) refl
+    where
+      go : (done : Bool) → changes (answer c interrupt t) ≡ done → Sound (cond done (chosen (changeBy c t)) t)
+      go true e = chosen-sound (change-unchosen s c b (accepts c interrupt t .holds e))
+      go false e = s
+
+  -- On a sound table the kernel serves the call.
+  pub step-serve : (interrupt : Bool) → step c interrupt t ≡ serve c interrupt t
+  unfolding step
+  step-serve interrupt = rw (sound-tested s)
+
+  -- A step of the kernel leaves the table sound.
+  pub step-sound : Bounded c → (interrupt : Bool) → Sound (step c interrupt t .table)
+  step-sound b interrupt = rw (step-serve interrupt) (serve-sound b interrupt)
+
+-- No call that is served is answered 15.
+pub serve-small : (c : Call) (interrupt : Bool) (t : Table) → serve c interrupt t .answer < notSound
+unfolding serve
+serve-small c interrupt t = accepts c interrupt t .small
+
+-- ---- the fresh table
+
+-- The fresh table is sound.
+pub fresh-sound : Sound freshTable
+unfolding count mayPrecede fits isOrdered leads smallest fresh freshTable isAble placeOf works holderOf next freshIn each isShaped objectsIn marksIn isTaskInRange isInRange isNoTask isNoSemaphore isNoMutex isFreeZero isQueued isWaited isWorked isHeldRight isTimed runsRight isSound
+fresh-sound = tested-sound freshTable refl

@@ -1,0 +1,195 @@
+-- Where a task stands, and what the front slot of a queue says of the tasks. Assumes nothing.
+use mathlib.Core.Path.{_≡_, refl, sym, ap, subst, _∙_}
+use mathlib.Core.Logic.{⊎-elim, _≢_}
+use mathlib.Core.Bool.{Bool, true, false}
+use mathlib.Core.List.{List}
+use Prim.Native.Nat.{ℕ, _-_, _≤_, _<_}
+use native.Mathlib.Decide.{ℕ-discrete}
+use native.Mathlib.Omega.{arith}
+use lib.Dec.{eqb}
+use lib.ListN.{getD}
+use borrow.Author.Tests.{eqb-true, eqb-false, eq-eqb, ne-eqb}
+use Rattle.queue.specs.Slots.{keyOf}
+use Rattle.queue.specs.Order.{All, none, more, Ordered, empty, front, count}
+use Rattle.queue.specs.Keeps.{key-own}
+use Rattle.queue.specs.Stands.{one-other, stands-at, stands-some}
+use Rattle.rules.specs.Sizes.{taskCount, semaphoreCount, mutexCount, plain, waitsSemaphore, waitsMutex}
+use Rattle.rules.specs.Table.{Table, taskOf, queueOf, queueCount, ableQueue, semaphoreQueue, mutexQueue, firstIn, works, isAble, placeOf, written}
+use Rattle.rules.specs.Decides.{Decides, equals, first, last}
+use Rattle.rules.specs.Sound.{Empty, once, objectsIn, TaskInRange}
+use Rattle.rules.specs.declared.Task.{Task}
+use Rattle.laws.specs.Settled.{Queued, TaskRight, able-place}
+use Rattle.laws.specs.Put.{work-at}
+
+-- ---- able tasks, and the four places
+
+pub record Able (k : Task) : Type 0 where
+  pub used : k .used ≡ 1
+  pub state : k .state ≡ plain
+  pub suspend : k .suspend ≡ 0
+
+pub able : (k : Task) → Decides (isAble k) (Able k)
+unfolding isAble
+able k = first (λ a. a .used) equals λ used. first (λ a. a .state) equals λ state. last (λ a. a .suspend) equals λ suspend. record { used = used; state = state; suspend = suspend }
+
+pub data Place (k : Task) : Type 0 where
+  ready : isAble k ≡ true → placeOf k ≡ ableQueue → Place k
+  forSemaphore : k .state ≡ waitsSemaphore → placeOf k ≡ semaphoreQueue (k .object) → Place k
+  forMutex : k .state ≡ waitsMutex → placeOf k ≡ mutexQueue (k .object) → Place k
+  nowhere : isAble k ≡ false → k .state ≢ waitsSemaphore → k .state ≢ waitsMutex → placeOf k ≡ queueCount → Place k
+
+pub place : (k : Task) → Place k
+unfolding placeOf
+place k = go (isAble k) (eqb (k .state) waitsSemaphore) (eqb (k .state) waitsMutex) refl refl refl
+  where
+    go : (a b c : Bool) → isAble k ≡ a → eqb (k .state) waitsSemaphore ≡ b → eqb (k .state) waitsMutex ≡ c → Place k
+    go true b c d e f = ready d (rw d)
+    go false true c d e f = forSemaphore (eqb-true _ _ e) (rw (d, e))
+    go false false true d e f = forMutex (eqb-true _ _ f) (rw (d, e, f))
+    go false false false d e f = nowhere d (eqb-false _ _ e) (eqb-false _ _ f) (rw (d, e, f))
+
+module _ (k : Task) where
+  -- Who is able stands in the able queue, and who stands there is able.
+  pub able-stands : isAble k ≡ true → placeOf k ≡ ableQueue
+  able-stands a = eqb-true _ _ (sym (able-place k) ∙ a)
+
+  pub able-there : placeOf k ≡ ableQueue → isAble k ≡ true
+  able-there e = able-place k ∙ eq-eqb _ _ e
+
+  -- Who waits for a semaphore stands in its queue, and who stands there waits for it.
+  pub semaphore-place : k .state ≡ waitsSemaphore → placeOf k ≡ semaphoreQueue (k .object)
+  semaphore-place e = go (place k)
+    where
+      go : Place k → placeOf k ≡ semaphoreQueue (k .object)
+      go (ready a p) = absurd (omega (arith, able k .holds a .state))
+      go (forSemaphore a p) = p
+      go (forMutex a p) = absurd (omega arith)
+      go (nowhere a b c p) = absurd (b e)
+
+  pub semaphore-there : (s : ℕ) → s < semaphoreCount → placeOf k ≡ semaphoreQueue s → (k .state ≡ waitsSemaphore) × (k .object ≡ s)
+  semaphore-there s l e = go (place k)
+    where
+      go : Place k → (k .state ≡ waitsSemaphore) × (k .object ≡ s)
+      go (ready a p) = absurd (omega arith)
+      go (forSemaphore a p) = (a, omega arith)
+      go (forMutex a p) = absurd (omega arith)
+      go (nowhere a b c p) = absurd (omega arith)
+
+  -- The same of a mutex, where no semaphore has a number past the semaphores.
+  pub mutex-place : k .state ≡ waitsMutex → placeOf k ≡ mutexQueue (k .object)
+  mutex-place e = go (place k)
+    where
+      go : Place k → placeOf k ≡ mutexQueue (k .object)
+      go (ready a p) = absurd (omega (arith, able k .holds a .state))
+      go (forSemaphore a p) = absurd (omega arith)
+      go (forMutex a p) = p
+      go (nowhere a b c p) = absurd (c e)
+
+  pub mutex-there : (m : ℕ) → m < mutexCount → (k .state ≡ waitsSemaphore → k .object < semaphoreCount) → placeOf k ≡ mutexQueue m
+      → (k .state ≡ waitsMutex) × (k .object ≡ m)
+  mutex-there m l within e = go (place k)
+    where
+      go : Place k → (k .state ≡ waitsMutex) × (k .object ≡ m)
+      go (ready a p) = absurd (omega arith)
+      go (forSemaphore a p) = absurd (omega (arith, within a))
+      go (forMutex a p) = (a, omega arith)
+      go (nowhere a b c p) = absurd (omega arith)
+
+  -- Who stands in the queue of an object waits.
+  pub waits-there : placeOf k < queueCount → placeOf k ≢ ableQueue → k .state ≢ plain
+  waits-there l d = go (place k)
+    where
+      go : Place k → k .state ≢ plain
+      go (ready a p) = absurd (d p)
+      go (forSemaphore a p) = omega arith
+      go (forMutex a p) = omega arith
+      go (nowhere a b c p) = absurd (omega arith)
+
+-- The semaphore for which a task waits has a number in range.
+pub semaphore-range : {k : Task} → TaskInRange k → k .state ≡ waitsSemaphore → k .object < semaphoreCount
+unfolding objectsIn
+semaphore-range {k} r e = go (k .state) e (r .object)
+  where
+    go : (s : ℕ) → s ≡ waitsSemaphore → k .object < objectsIn s → k .object < semaphoreCount
+    go s e o = rw e at o
+
+-- Who stands in a queue is in use.
+pub placed-used : {k : Task} → TaskRight k → placeOf k < queueCount → k .used ≡ 1
+unfolding placeOf isAble
+placed-used {k} r l = go (ℕ-discrete (k .used) 0)
+  where
+    go : Dec (k .used ≡ 0) → k .used ≡ 1
+    go (yes z) = absurd (omega (arith, ap placeOf (r .freeZero z)))
+    go (no d) = omega (arith, r .inRange .used)
+
+-- ---- front slots
+
+-- What holds of each slot holds of what is counted there.
+count-all : {P : ℕ → Type 0} {l : List ℕ} (u : ℕ) → All P l → 1 ≤ count u l → P u
+unfolding count
+count-all u none h = absurd (omega arith)
+count-all {P} u (more {x} {xs} p a) h = go (ℕ-discrete x u) (λ r. count-all u a r)
+  where
+    go : Dec (x ≡ u) → (1 ≤ count u xs → P u) → P u
+    go (yes e) r = subst P e p
+    go (no d) r = r (omega (arith, one-other u x d))
+
+-- Where u stands, the front slot holds an id, of no greater key.
+front-least : {keys l : List ℕ} (u : ℕ) → u ≢ 0 → Ordered keys l → 1 ≤ count u l → (getD l 0 0 ≢ 0) × (keyOf keys (getD l 0 0) ≤ keyOf keys u)
+unfolding count
+front-least u z empty h = absurd (omega arith)
+front-least {keys} u z (front {x} {xs} a o) h = go (ℕ-discrete x u)
+  where
+    go : Dec (x ≡ u) → (x ≢ 0) × (keyOf keys x ≤ keyOf keys u)
+    go (yes e) = rw e (z, omega arith)
+    go (no d) = ⊎-elim (λ e. absurd (z e)) (λ p. p) (count-all u a (omega (arith, one-other u x d)))
+
+module _ {t : Table} (s : Queued t) (q : ℕ) (l : q < queueCount) where
+  front-stands : 1 ≤ count (firstIn q t) (queueOf t q)
+  front-stands = stands-some (firstIn q t) (queueOf t q) (stands-at (firstIn q t) 0 (queueOf t q) (omega (arith, s .shaped .slots q l)) refl)
+
+  -- The front slot holds a task or none,
+  pub first-range : firstIn q t ≤ taskCount
+  first-range = count-all (firstIn q t) (s .nothingElse q l) front-stands
+
+  -- and that task stands there.
+  pub first-there : firstIn q t ≢ 0 → placeOf (taskOf t (firstIn q t - 1)) ≡ q
+  first-there d = go (ℕ-discrete (placeOf (taskOf t i)) q)
+    where
+      i : ℕ
+      i = firstIn q t - 1
+
+      go : Dec (placeOf (taskOf t i) ≡ q) → placeOf (taskOf t i) ≡ q
+      go (yes e) = e
+      go (no n) =
+          let w : written i ≡ firstIn q t = omega arith in
+          let z : count (written i) (queueOf t q) ≡ 0 = s .places q l i (omega (arith, first-range)) ∙ ap once (ne-eqb _ _ n) in
+          absurd (omega (arith, front-stands, ap (λ (v : ℕ). count v (queueOf t q)) w))
+
+  -- No task that stands there is more urgent.
+  before : (j : ℕ) → j < taskCount → placeOf (taskOf t j) ≡ q → (firstIn q t ≢ 0) × (keyOf (works t) (firstIn q t) ≤ keyOf (works t) (written j))
+  before j m e = front-least (written j) (λ z. omega arith) (s .ordered q l) (omega (arith, s .places q l j m, ap once (eq-eqb _ _ e)))
+
+  pub first-least : (j : ℕ) → j < taskCount → placeOf (taskOf t j) ≡ q → taskOf t (firstIn q t - 1) .work ≤ taskOf t j .work
+  first-least j m e = omega (arith, before j m e .1, work-at t (firstIn q t - 1), key-own (works t) j, work-at t j)
+
+  -- No task stands in an empty queue.
+  pub empty-none : Empty q t → (j : ℕ) → j < taskCount → placeOf (taskOf t j) ≢ q
+  empty-none z j m e = before j m e .0 z
+
+  -- A queue where no task stands is empty.
+  pub none-empty : ((j : ℕ) → j < taskCount → placeOf (taskOf t j) ≢ q) → Empty q t
+  none-empty out = go (ℕ-discrete (firstIn q t) 0)
+    where
+      go : Dec (Empty q t) → Empty q t
+      go (yes e) = e
+      go (no n) = absurd (out (firstIn q t - 1) (omega (arith, first-range)) (first-there n))
+
+-- Where an object's queue is empty, nobody waits for it.
+pub semaphore-unwaited : {t : Table} → Queued t → (o : ℕ) → o < semaphoreCount → Empty (semaphoreQueue o) t
+    → (j : ℕ) → j < taskCount → taskOf t j .state ≡ waitsSemaphore → taskOf t j .object ≢ o
+semaphore-unwaited {t} q o l z j m e x = empty-none q (semaphoreQueue o) (omega arith) z j m (semaphore-place (taskOf t j) e ∙ ap semaphoreQueue x)
+
+pub mutex-unwaited : {t : Table} → Queued t → (m : ℕ) → m < mutexCount → Empty (mutexQueue m) t
+    → (j : ℕ) → j < taskCount → taskOf t j .state ≡ waitsMutex → taskOf t j .object ≢ m
+mutex-unwaited {t} q m l z j n e x = empty-none q (mutexQueue m) (omega arith) z j n (mutex-place (taskOf t j) e ∙ ap mutexQueue x)
