@@ -1,0 +1,78 @@
+// The semaphores and the mutexes: their fields, who holds, and whether someone waits.
+ghost use mathlib.Core.Path.{_≡_};
+ghost use Prim.Native.Nat.{_<_};
+ghost use Rattle.rules.specs.Sound.{each};
+ghost use Rattle.table.specs.Image.{Image, view};
+ghost use Rattle.sound.specs.Objects.{isSemaphoreRight, semaphoreRight, isMutexInRange, isHeldWell, mutexRight};
+
+// A semaphore, with the front slot of its queue.
+fn is_semaphore_right(x: rules::Semaphore, front: u8) -> bool
+    ensures { λ r. ⌜ r ≡ isSemaphoreRight x front ⌝ }
+{
+    (x.used <= 1)
+        & ((x.count <= 4294967295)
+            & (((x.used != 0) | ((x.count == 0) & (front == 0))) & ((front == 0) | (x.count == 0))))
+}
+
+pub fn are_semaphores_right(s: &[u8]) -> bool
+    requires { ⌜ Image (now s) ⌝ }
+    ensures { λ r. ⌜ r ≡ each 16 (semaphoreRight (view (now (s .entry)))) ⌝ }
+{
+    let mut i = 0;
+    while i < 16 {
+        let x = table::cells::get_semaphore(s, i);
+        let front = table::moves::first_in(s, 1 + i);
+        if !is_semaphore_right(x, front) {
+            return false;
+        }
+        i += 1;
+    }
+    true
+}
+
+// A mutex by itself, with the front slot of its queue.
+fn is_mutex_in_range(x: rules::Mutex, front: u8) -> bool
+    ensures { λ r. ⌜ r ≡ isMutexInRange x front ⌝ }
+{
+    (x.used <= 1)
+        & ((x.holder <= 32)
+            & ((x.nesting <= 250)
+                & ((x.used != 0) | ((x.holder == 0) & ((x.nesting == 0) & (front == 0))))))
+}
+
+// Its holder and its nesting; m is its number.
+fn is_held_well(s: &[u8], m: usize, x: rules::Mutex, front: u8) -> bool
+    requires { ⌜ (m < 16) × Image (now s) ⌝ }
+    ensures { λ r. ⌜ r ≡ isHeldWell (view (now (s .entry))) m x front ⌝ }
+{
+    let h = x.holder;
+    if h == 0 {
+        return (x.nesting == 0) & (front == 0);
+    }
+    let k = table::cells::task_at(s, h as usize - 1);
+    let q = table::moves::place_of(k);
+    (1 <= x.nesting) & ((k.used == 1) & (q != 17 + m))
+}
+
+fn is_mutex_right(s: &[u8], m: usize) -> bool
+    requires { ⌜ (m < 16) × Image (now s) ⌝ }
+    ensures { λ r. ⌜ r ≡ mutexRight (view (now (s .entry))) m ⌝ }
+{
+    let x = table::cells::get_mutex(s, m);
+    let front = table::moves::first_in(s, 17 + m);
+    is_mutex_in_range(x, front) & is_held_well(s, m, x, front)
+}
+
+pub fn are_mutexes_right(s: &[u8]) -> bool
+    requires { ⌜ Image (now s) ⌝ }
+    ensures { λ r. ⌜ r ≡ each 16 (mutexRight (view (now (s .entry)))) ⌝ }
+{
+    let mut m = 0;
+    while m < 16 {
+        if !is_mutex_right(s, m) {
+            return false;
+        }
+        m += 1;
+    }
+    true
+}
