@@ -1,11 +1,11 @@
 -- One line of a tape's text, and what it is to write it.
-use mathlib.Core.Bool.{Bool, true, false, cond, _&&_}
+use mathlib.Core.Bool.{Bool, true, false, cond}
 use mathlib.Core.Path.{_≡_, refl, sym}
 use mathlib.Core.List.{List, [], _∷_, _++_, append-assoc}
 use Prim.Native.Nat.{ℕ, _+_, _-_, _/_, _%_, _≤_, _<_}
 use native.Mathlib.Nat.{add-zero}
 use native.Mathlib.Omega.{arith}
-use borrow.Author.Tests.{ltb-true, leb-true, lt-ltb, le-leb}
+use borrow.Author.Tests.{leb-true, le-leb}
 use lib.Dec.{eqb, ltb, leb}
 use lib.ListN.{length, take, drop, length-append}
 use lib.Seq.{sets, sets-eq, paste-zero, take-at, drop-append-add, drop-drop, length-take-le}
@@ -20,13 +20,9 @@ pub line-of : (o : Outcome) → line o ≡ lineOf (o .answer) (o .runs)
 unfolding line lineOf
 line-of o = refl
 
--- Two digits are enough for each number, and the longest line fits.
-abbrev pub lineFits : (answer runs room : ℕ) → Bool
-lineFits answer runs room = ltb answer 100 && leb runs 100 && leb 6 room
-
--- What is written with `room` bytes left.
+-- What is written with `room` bytes left: the longest line takes 6.
 unfoldable pub lineIn : (answer runs room : ℕ) → List ℕ
-lineIn answer runs room = cond (lineFits answer runs room) (lineOf answer runs) []
+lineIn answer runs room = cond (leb 6 room) (lineOf answer runs) []
 
 unfoldable pub badIn : ℕ → List ℕ
 badIn room = cond (leb 4 room) badLine []
@@ -69,20 +65,9 @@ wrote-bytes at text l h = record { list = sets-eq text l at h; ends = refl }
 
 -- ---- what fits
 
-all-true : (a b c : Bool) → a && b && c ≡ true → (a ≡ true) × (b ≡ true) × (c ≡ true)
-all-true true true true e = (refl, refl, refl)
-all-true true true false e = (cc, cc, cc)
-all-true true false c e = (cc, cc, cc)
-all-true false b c e = (cc, cc, cc)
-
-pub line-fitting : (answer runs room : ℕ) → lineFits answer runs room ≡ true → (answer < 100) × (runs ≤ 100) × (6 ≤ room)
-line-fitting answer runs room e =
-    let t = all-true (ltb answer 100) (leb runs 100) (leb 6 room) e in
-    (ltb-true answer 100 (t .0), leb-true runs 100 (t .1), leb-true 6 room (t .2))
-
-pub line-in : (answer runs room : ℕ) → answer < 100 → runs ≤ 100 → 6 ≤ room → lineIn answer runs room ≡ lineOf answer runs
+pub line-in : (answer runs room : ℕ) → 6 ≤ room → lineIn answer runs room ≡ lineOf answer runs
 unfolding lineIn
-line-in answer runs room h g f = rw (lt-ltb answer 100 h, le-leb runs 100 g, le-leb 6 room f)
+line-in answer runs room h = rw (le-leb 6 room h)
 
 pub bad-in : (room : ℕ) → 4 ≤ room → badIn room ≡ badLine
 unfolding badIn
@@ -114,7 +99,7 @@ either-short false text room h = omega arith
 pub lineIn-short : (answer runs room : ℕ) → length (lineIn answer runs room) ≤ room
 unfolding lineIn
 lineIn-short answer runs room =
-    either-short (lineFits answer runs room) (lineOf answer runs) room (λ e. omega (arith, line-short answer runs, line-fitting answer runs room e))
+    either-short (leb 6 room) (lineOf answer runs) room (λ e. omega (arith, line-short answer runs, leb-true 6 room e))
 
 pub badIn-short : (room : ℕ) → length (badIn room) ≤ room
 unfolding badIn

@@ -6,7 +6,7 @@ ghost use Prim.Native.Nat.{_+_, _-_, _≤_, _<_};
 ghost use lib.ListN.{length, take, drop};
 ghost use Rattle.rules.specs.Tape.{little, decimal, runner};
 ghost use Rattle.tape.specs.Next.{nextOf, nextIn};
-ghost use Rattle.tape.specs.Line.{Wrote, lineOf, lineFits, lineIn, badIn};
+ghost use Rattle.tape.specs.Line.{Wrote, lineOf, lineIn, badIn};
 
 // What stands at the start of a tape: a call, made by an interrupt or not, with its length in bytes; a call that is cut; a kind that the list lacks; or the end.
 pub enum Next {
@@ -78,7 +78,7 @@ fn write_byte(out: &mut [u8], at: usize, b: u8) -> usize
 }
 
 fn write_decimal(out: &mut [u8], at: usize, n: u8) -> usize
-    requires { ⌜ (n < 100) × (at + 2 ≤ length (now out)) ⌝ }
+    requires { ⌜ at + 2 ≤ length (now out) ⌝ }
     ensures { λ r. ⌜ Wrote at (decimal n) (now (out .entry)) (now (out .exit)) r ⌝ }
 {
     if n < 10 {
@@ -91,7 +91,7 @@ fn write_decimal(out: &mut [u8], at: usize, n: u8) -> usize
 }
 
 fn write_runner(out: &mut [u8], at: usize, runs: u8) -> usize
-    requires { ⌜ (runs ≤ 100) × (at + 2 ≤ length (now out)) ⌝ }
+    requires { ⌜ at + 2 ≤ length (now out) ⌝ }
     ensures { λ r. ⌜ Wrote at (runner runs) (now (out .entry)) (now (out .exit)) r ⌝ }
 {
     if runs == 0 {
@@ -102,7 +102,7 @@ fn write_runner(out: &mut [u8], at: usize, runs: u8) -> usize
 }
 
 fn write_fitting(out: &mut [u8], at: usize, answer: u8, runs: u8) -> usize
-    requires { ⌜ (answer < 100) × (runs ≤ 100) × (at + 6 ≤ length (now out)) ⌝ }
+    requires { ⌜ at + 6 ≤ length (now out) ⌝ }
     ensures { λ r. ⌜ Wrote at (lineOf answer runs) (now (out .entry)) (now (out .exit)) r ⌝ }
 {
     let a = write_decimal(out, at, answer);
@@ -121,20 +121,14 @@ fn room(len: usize, at: usize) -> usize
     len - at
 }
 
-fn line_fits(answer: u8, runs: u8, room: usize) -> bool
-    ensures { λ r. ⌜ r ≡ lineFits answer runs room ⌝ }
-{
-    (answer < 100) & (runs <= 100) & (6 <= room)
-}
-
-// Writes the line of an answer and of the running task, and gives back where it ends; nothing where a number is too large or fewer than 6 bytes are left.
+// Writes the line of an answer and of the running task, and gives back where it ends; nothing where fewer than 6 bytes are left.
 pub fn write_line(out: &mut [u8], at: usize, answer: u8, runs: u8) -> usize
     ensures { λ r. ⌜ Wrote at (lineIn answer runs (length (now (out .entry)) - at)) (now (out .entry)) (now (out .exit)) r ⌝ }
 {
-    if line_fits(answer, runs, room(out.len(), at)) {
-        return write_fitting(out, at, answer, runs);
+    if room(out.len(), at) < 6 {
+        return at;
     }
-    at
+    write_fitting(out, at, answer, runs)
 }
 
 // Writes `bad` and a newline, and gives back where they end; nothing where fewer than 4 bytes are left.

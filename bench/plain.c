@@ -1,0 +1,856 @@
+/* plain.c: see plain.h. */
+#include "plain.h"
+
+#include <string.h>
+
+#include "../include/nonthachak.h"
+
+void plain_fresh(struct plain *k)
+{
+    unsigned i;
+
+    memset(k, 0, sizeof *k);
+    for (i = 0; i < PLAIN_NODES; i++)
+        k->next[i] = k->prev[i] = (uint8_t)i;
+    k->running = PLAIN_NONE;
+}
+
+/* Queues */
+
+static inline void insert_behind(struct plain *k, unsigned at, unsigned i)
+{
+    unsigned after = k->next[at];
+
+    k->next[at] = (uint8_t)i;
+    k->prev[i] = (uint8_t)at;
+    k->next[i] = (uint8_t)after;
+    k->prev[after] = (uint8_t)i;
+}
+
+/* Task i joins a queue, behind its equals. The head's 0 ends the search. */
+static inline void join(struct plain *k, unsigned head, unsigned i)
+{
+    unsigned at = k->prev[head];
+    uint8_t p = k->work[i];
+
+    while (k->work[at] > p)
+        at = k->prev[at];
+    insert_behind(k, at, i);
+}
+
+/* Task i leaves its queue; it may be in none. */
+static inline void leave(struct plain *k, unsigned i)
+{
+    unsigned before = k->prev[i], after = k->next[i];
+
+    k->next[before] = (uint8_t)after;
+    k->prev[after] = (uint8_t)before;
+    k->next[i] = k->prev[i] = (uint8_t)i;
+}
+
+/* Task i, wherever it stands, works at p from now on, another priority than before, and goes behind its equals there. */
+static void set_work(struct plain *k, unsigned i, uint8_t p)
+{
+    unsigned before = k->prev[i], after = k->next[i];
+    uint8_t old = k->work[i];
+
+    k->work[i] = p;
+    if (p < old) {
+        if (k->work[before] <= p) /* it is there, or in no queue */
+            return;
+        do
+            before = k->prev[before];
+        while (k->work[before] > p);
+        leave(k, i);
+        insert_behind(k, before, i);
+    } else {
+        if (after >= PLAIN_TASKS || k->work[after] > p || after == i)
+            return;
+        do
+            after = k->next[after];
+        while (after < PLAIN_TASKS && k->work[after] <= p);
+        leave(k, i);
+        insert_behind(k, k->prev[after], i);
+    }
+}
+
+/* Task i goes behind its equals in its queue. */
+static inline void rotate(struct plain *k, unsigned i)
+{
+    unsigned after = k->next[i];
+
+    while (after < PLAIN_TASKS && k->work[after] <= k->work[i])
+        after = k->next[after];
+    leave(k, i);
+    insert_behind(k, k->prev[after], i);
+}
+
+/* Has the first able task, i, an equal? */
+static inline int has_peer(const struct plain *k, unsigned i)
+{
+    unsigned after = k->next[i];
+
+    return after < PLAIN_TASKS && k->work[after] == k->work[i];
+}
+
+/* Priorities */
+
+/* The holder of the mutex that task i waits for. */
+static inline unsigned holder_before(const struct plain *k, unsigned i)
+{
+    const struct plain_task *t = &k->task[i];
+
+    return t->state == PLAIN_WAITS_MUTEX ? k->mutex[t->object].holder : PLAIN_NONE;
+}
+
+/* The most urgent of p and of the waiters for the mutexes that task i holds, but for those on a ring with i. Only one waiter for
+ * these mutexes can be on it. */
+static inline uint8_t with_waiters(const struct plain *k, unsigned i, uint8_t p, uint32_t ring)
+{
+    uint32_t held;
+
+    for (held = k->task[i].held; held; held &= held - 1) {
+        unsigned first = k->next[PLAIN_MUTEX + __builtin_ctz(held)];
+        if (first < PLAIN_TASKS && ring >> first & 1)
+            first = k->next[first];
+        if (first < PLAIN_TASKS && k->work[first] < p)
+            p = k->work[first];
+    }
+    return p;
+}
+
+/* The most urgent that the members of a ring of waits may work at together. */
+static uint8_t work_of_ring(const struct plain *k, uint32_t ring)
+{
+    uint32_t rest;
+    uint8_t p = UINT8_MAX;
+
+    for (rest = ring; rest; rest &= rest - 1) {
+        unsigned i = (unsigned)__builtin_ctz(rest);
+        if (k->task[i].base < p)
+            p = k->task[i].base;
+        p = with_waiters(k, i, p, ring);
+    }
+    return p;
+}
+
+/* Something as urgent as p now leads to task i. */
+static void raise_chain(struct plain *k, unsigned i, uint8_t p)
+{
+    while (i != PLAIN_NONE && k->work[i] > p) {
+        set_work(k, i, p);
+        i = holder_before(k, i);
+    }
+}
+
+/* Something that led to task i no longer does. Off a ring the base and the first waiters decide; on a ring these would keep a
+ * priority up that nothing outside supports any more. Where one task's priority stays, those further on stay. */
+static void lower_chain(struct plain *k, unsigned i)
+{
+    uint32_t seen = 0, ring = 0;
+    unsigned at, entry;
+    uint8_t p;
+
+    for (at = i; at != PLAIN_NONE && !(seen >> at & 1); at = holder_before(k, at))
+        seen |= UINT32_C(1) << at;
+    entry = at;
+    for (; i != entry; i = holder_before(k, i)) {
+        p = with_waiters(k, i, k->task[i].base, 0);
+        if (p == k->work[i])
+            return;
+        set_work(k, i, p);
+    }
+    if (entry == PLAIN_NONE)
+        return;
+    do {
+        ring |= UINT32_C(1) << i;
+        i = holder_before(k, i);
+    } while (i != entry);
+    p = work_of_ring(k, ring);
+    if (p == k->work[i])
+        return;
+    do {
+        set_work(k, i, p);
+        i = holder_before(k, i);
+    } while (i != entry);
+}
+
+/* Steps that several calls share */
+
+static inline void join_if_able(struct plain *k, unsigned i)
+{
+    if (k->task[i].suspended == 0)
+        join(k, PLAIN_ABLE, i);
+}
+
+/* Task i, in no queue any more, becomes plain. */
+static inline void become_plain(struct plain *k, unsigned i, uint8_t outcome)
+{
+    struct plain_task *t = &k->task[i];
+
+    t->state = PLAIN_PLAIN;
+    t->object = 0;
+    t->mark = 0;
+    k->marked &= ~(UINT32_C(1) << i);
+    t->outcome = outcome;
+    join_if_able(k, i);
+}
+
+/* Task i no longer waits for the mutex that h holds and has left its queue: the chain from h moves. */
+static inline void lower_behind(struct plain *k, unsigned i, unsigned h)
+{
+    if (k->work[i] == k->work[h]) /* else h owes nothing to it */
+        lower_chain(k, h);
+}
+
+/* Task i, a waiter, does not get what it waits for. */
+static void end_wait(struct plain *k, unsigned i, uint8_t outcome)
+{
+    struct plain_task *t = &k->task[i];
+
+    leave(k, i);
+    if (t->state == PLAIN_WAITS_MUTEX) {
+        t->state = PLAIN_PLAIN;
+        lower_behind(k, i, k->mutex[t->object].holder);
+    }
+    become_plain(k, i, outcome);
+}
+
+static inline void set_mark(struct plain *k, unsigned i, uint32_t ticks)
+{
+    k->task[i].mark = k->tick + ticks;
+    k->marked |= UINT32_C(1) << i;
+}
+
+static inline void block(struct plain *k, unsigned i, enum plain_state state, unsigned object, unsigned head, uint32_t limit)
+{
+    struct plain_task *t = &k->task[i];
+
+    leave(k, i);
+    t->state = (uint8_t)state;
+    t->object = (uint8_t)object;
+    if (limit != 0)
+        set_mark(k, i, limit);
+    join(k, head, i);
+}
+
+/* The calls: each gives back its answer. */
+
+static unsigned task_create(struct plain *k, uint32_t a, uint32_t b, uint32_t c)
+{
+    struct plain_task *t;
+
+    if (a >= PLAIN_TASKS)
+        return NTK_BEYOND_RANGE;
+    t = &k->task[a];
+    if (t->used)
+        return NTK_IN_USE;
+    if (b > 62 || c > 65535)
+        return NTK_BAD_VALUE;
+    t->used = 1;
+    t->base = (uint8_t)b;
+    t->quantum = t->left = (uint16_t)c;
+    k->work[a] = (uint8_t)b;
+    join(k, PLAIN_ABLE, a);
+    return NTK_DONE;
+}
+
+static unsigned task_delete(struct plain *k, uint32_t a)
+{
+    struct plain_task *t;
+    unsigned h;
+
+    if (a >= PLAIN_TASKS)
+        return NTK_BEYOND_RANGE;
+    t = &k->task[a];
+    if (!t->used)
+        return NTK_NOT_IN_USE;
+    if (k->depth > 0 && k->running == a)
+        return NTK_WHILE_LOCKED;
+    if (t->held)
+        return NTK_STILL_NEEDED;
+    h = holder_before(k, a);
+    leave(k, a);
+    if (h != PLAIN_NONE) {
+        t->state = PLAIN_PLAIN;
+        lower_behind(k, a, h);
+    }
+    memset(t, 0, sizeof *t);
+    k->work[a] = 0;
+    k->marked &= ~(UINT32_C(1) << a);
+    return NTK_DONE;
+}
+
+static unsigned change_priority(struct plain *k, uint32_t a, uint32_t b)
+{
+    struct plain_task *t;
+    uint8_t old;
+
+    if (a >= PLAIN_TASKS)
+        return NTK_BEYOND_RANGE;
+    t = &k->task[a];
+    if (!t->used)
+        return NTK_NOT_IN_USE;
+    if (b > 62)
+        return NTK_BAD_VALUE;
+    old = t->base;
+    t->base = (uint8_t)b;
+    if (b < old)
+        raise_chain(k, a, (uint8_t)b);
+    else if (b > old && k->work[a] == old)
+        lower_chain(k, a);
+    return NTK_DONE;
+}
+
+static unsigned suspend(struct plain *k, uint32_t a)
+{
+    struct plain_task *t;
+
+    if (a >= PLAIN_TASKS)
+        return NTK_BEYOND_RANGE;
+    t = &k->task[a];
+    if (!t->used)
+        return NTK_NOT_IN_USE;
+    if (k->depth > 0 && k->running == a)
+        return NTK_WHILE_LOCKED;
+    if (t->suspended == 250)
+        return NTK_TOO_DEEP;
+    t->suspended++;
+    if (t->state == PLAIN_PLAIN)
+        leave(k, a);
+    return NTK_DONE;
+}
+
+static unsigned resume(struct plain *k, uint32_t a)
+{
+    struct plain_task *t;
+
+    if (a >= PLAIN_TASKS)
+        return NTK_BEYOND_RANGE;
+    t = &k->task[a];
+    if (!t->used)
+        return NTK_NOT_IN_USE;
+    if (t->suspended == 0)
+        return NTK_NOTHING_TO_UNDO;
+    t->suspended--;
+    if (t->state == PLAIN_PLAIN)
+        join_if_able(k, a);
+    return NTK_DONE;
+}
+
+static unsigned yield(struct plain *k)
+{
+    unsigned i = k->running;
+
+    if (i == PLAIN_NONE)
+        return NTK_NONE_RUNNING;
+    if (k->depth > 0)
+        return NTK_WHILE_LOCKED;
+    if (!has_peer(k, i))
+        return NTK_NOTHING_TO_UNDO;
+    rotate(k, i);
+    k->task[i].left = k->task[i].quantum;
+    return NTK_DONE;
+}
+
+static unsigned delay(struct plain *k, uint32_t a)
+{
+    unsigned i = k->running;
+
+    if (i == PLAIN_NONE)
+        return NTK_NONE_RUNNING;
+    if (a == 0)
+        return NTK_BAD_VALUE;
+    if (k->depth > 0)
+        return NTK_WHILE_LOCKED;
+    leave(k, i);
+    k->task[i].state = PLAIN_DELAYED;
+    set_mark(k, i, a);
+    return NTK_DONE;
+}
+
+static unsigned delay_resume(struct plain *k, uint32_t a)
+{
+    if (a >= PLAIN_TASKS)
+        return NTK_BEYOND_RANGE;
+    if (!k->task[a].used)
+        return NTK_NOT_IN_USE;
+    if (k->task[a].state != PLAIN_DELAYED)
+        return NTK_NOTHING_TO_UNDO;
+    become_plain(k, a, NTK_GIVEN);
+    return NTK_DONE;
+}
+
+static unsigned lock(struct plain *k)
+{
+    if (k->depth == 250)
+        return NTK_TOO_DEEP;
+    k->depth++;
+    return NTK_DONE;
+}
+
+static unsigned unlock(struct plain *k)
+{
+    if (k->depth == 0)
+        return NTK_NOTHING_TO_UNDO;
+    k->depth--;
+    return NTK_DONE;
+}
+
+static unsigned tick(struct plain *k)
+{
+    unsigned i = k->running;
+    uint32_t rest;
+
+    k->tick++;
+    if (i != PLAIN_NONE && k->task[i].quantum != 0) {
+        struct plain_task *t = &k->task[i];
+        if (t->left > 0)
+            t->left--;
+        if (t->left == 0 && k->depth == 0 && has_peer(k, i)) {
+            rotate(k, i);
+            t->left = t->quantum;
+        }
+    }
+    for (rest = k->marked; rest; rest &= rest - 1) {
+        i = (unsigned)__builtin_ctz(rest);
+        if (k->task[i].mark == k->tick)
+            end_wait(k, i, k->task[i].state == PLAIN_DELAYED ? NTK_GIVEN : NTK_TIMED_OUT);
+    }
+    return NTK_DONE;
+}
+
+static unsigned semaphore_create(struct plain *k, uint32_t a, uint32_t b)
+{
+    if (a >= PLAIN_OBJECTS)
+        return NTK_BEYOND_RANGE;
+    if (k->semaphore[a].used)
+        return NTK_IN_USE;
+    k->semaphore[a].used = 1;
+    k->semaphore[a].count = b;
+    return NTK_DONE;
+}
+
+static inline unsigned delete_answer(struct plain *k, unsigned head, uint32_t force)
+{
+    if (force > 1)
+        return NTK_BAD_VALUE;
+    return !force && k->next[head] != head ? NTK_STILL_NEEDED : NTK_DONE;
+}
+
+static unsigned semaphore_delete(struct plain *k, uint32_t a, uint32_t b)
+{
+    unsigned head = PLAIN_SEMAPHORE + a, answer;
+
+    if (a >= PLAIN_OBJECTS)
+        return NTK_BEYOND_RANGE;
+    if (!k->semaphore[a].used)
+        return NTK_NOT_IN_USE;
+    answer = delete_answer(k, head, b);
+    if (answer != NTK_DONE)
+        return answer;
+    while (k->next[head] != head)
+        end_wait(k, k->next[head], NTK_DELETED);
+    k->semaphore[a].used = 0;
+    k->semaphore[a].count = 0;
+    return NTK_DONE;
+}
+
+static unsigned semaphore_wait(struct plain *k, uint32_t a, uint32_t b, uint32_t c)
+{
+    unsigned i = k->running;
+
+    if (i == PLAIN_NONE)
+        return NTK_NONE_RUNNING;
+    if (a >= PLAIN_OBJECTS)
+        return NTK_BEYOND_RANGE;
+    if (!k->semaphore[a].used)
+        return NTK_NOT_IN_USE;
+    if (b > 1)
+        return NTK_BAD_VALUE;
+    if (k->semaphore[a].count > 0) {
+        k->semaphore[a].count--;
+        k->task[i].outcome = NTK_GIVEN;
+        return NTK_DONE;
+    }
+    if (!b)
+        return NTK_NOTHING_TO_TAKE;
+    if (k->depth > 0)
+        return NTK_WHILE_LOCKED;
+    block(k, i, PLAIN_WAITS_SEMAPHORE, a, PLAIN_SEMAPHORE + a, c);
+    return NTK_BLOCKS;
+}
+
+static unsigned semaphore_post(struct plain *k, uint32_t a)
+{
+    unsigned head = PLAIN_SEMAPHORE + a, first;
+
+    if (a >= PLAIN_OBJECTS)
+        return NTK_BEYOND_RANGE;
+    if (!k->semaphore[a].used)
+        return NTK_NOT_IN_USE;
+    first = k->next[head];
+    if (first != head) {
+        leave(k, first);
+        become_plain(k, first, NTK_GIVEN);
+        return NTK_DONE;
+    }
+    if (k->semaphore[a].count == UINT32_MAX)
+        return NTK_COUNT_FULL;
+    k->semaphore[a].count++;
+    return NTK_DONE;
+}
+
+static inline unsigned abort_first(struct plain *k, unsigned head)
+{
+    unsigned first = k->next[head];
+
+    if (first == head)
+        return NTK_NOTHING_TO_UNDO;
+    end_wait(k, first, NTK_ABORTED);
+    return NTK_DONE;
+}
+
+static unsigned semaphore_abort(struct plain *k, uint32_t a)
+{
+    if (a >= PLAIN_OBJECTS)
+        return NTK_BEYOND_RANGE;
+    if (!k->semaphore[a].used)
+        return NTK_NOT_IN_USE;
+    return abort_first(k, PLAIN_SEMAPHORE + a);
+}
+
+static unsigned mutex_create(struct plain *k, uint32_t a)
+{
+    if (a >= PLAIN_OBJECTS)
+        return NTK_BEYOND_RANGE;
+    if (k->mutex[a].used)
+        return NTK_IN_USE;
+    k->mutex[a].used = 1;
+    k->mutex[a].holder = PLAIN_NONE;
+    return NTK_DONE;
+}
+
+static unsigned mutex_delete(struct plain *k, uint32_t a, uint32_t b)
+{
+    unsigned head = PLAIN_MUTEX + a, answer;
+    struct plain_mutex *m;
+
+    if (a >= PLAIN_OBJECTS)
+        return NTK_BEYOND_RANGE;
+    m = &k->mutex[a];
+    if (!m->used)
+        return NTK_NOT_IN_USE;
+    answer = delete_answer(k, head, b);
+    if (answer != NTK_DONE)
+        return answer;
+    while (k->next[head] != head)
+        end_wait(k, k->next[head], NTK_DELETED);
+    if (m->holder != PLAIN_NONE)
+        k->task[m->holder].held &= (uint16_t)~(1u << a);
+    m->used = m->holder = m->nesting = 0;
+    return NTK_DONE;
+}
+
+static inline void take(struct plain *k, unsigned m, unsigned i)
+{
+    k->mutex[m].holder = (uint8_t)i;
+    k->mutex[m].nesting = 1;
+    k->task[i].held |= (uint16_t)(1u << m);
+}
+
+static unsigned mutex_wait(struct plain *k, uint32_t a, uint32_t b, uint32_t c)
+{
+    unsigned i = k->running;
+    struct plain_mutex *m;
+
+    if (i == PLAIN_NONE)
+        return NTK_NONE_RUNNING;
+    if (a >= PLAIN_OBJECTS)
+        return NTK_BEYOND_RANGE;
+    m = &k->mutex[a];
+    if (!m->used)
+        return NTK_NOT_IN_USE;
+    if (b > 1)
+        return NTK_BAD_VALUE;
+    if (m->holder == PLAIN_NONE) {
+        take(k, a, i);
+        k->task[i].outcome = NTK_GIVEN;
+        return NTK_DONE;
+    }
+    if (m->holder == i) {
+        if (m->nesting == 250)
+            return NTK_TOO_DEEP;
+        m->nesting++;
+        k->task[i].outcome = NTK_GIVEN;
+        return NTK_DONE;
+    }
+    if (!b)
+        return NTK_NOTHING_TO_TAKE;
+    if (k->depth > 0)
+        return NTK_WHILE_LOCKED;
+    block(k, i, PLAIN_WAITS_MUTEX, a, PLAIN_MUTEX + a, c);
+    raise_chain(k, m->holder, k->work[i]);
+    return NTK_BLOCKS;
+}
+
+static unsigned mutex_post(struct plain *k, uint32_t a)
+{
+    unsigned i = k->running, head = PLAIN_MUTEX + a, first;
+    struct plain_mutex *m;
+
+    if (i == PLAIN_NONE)
+        return NTK_NONE_RUNNING;
+    if (a >= PLAIN_OBJECTS)
+        return NTK_BEYOND_RANGE;
+    m = &k->mutex[a];
+    if (!m->used)
+        return NTK_NOT_IN_USE;
+    if (m->holder != i)
+        return NTK_NOT_ITS_HOLDER;
+    if (--m->nesting > 0)
+        return NTK_DONE;
+    k->task[i].held &= (uint16_t)~(1u << a);
+    first = k->next[head];
+    if (first == head) {
+        m->holder = PLAIN_NONE;
+        return NTK_DONE;
+    }
+    if (k->work[first] == k->work[i]) { /* else the releaser owes nothing to it; it waits for nothing */
+        uint8_t p = with_waiters(k, i, k->task[i].base, 0);
+        if (p != k->work[i])
+            set_work(k, i, p);
+    }
+    leave(k, first);
+    take(k, a, first);
+    become_plain(k, first, NTK_GIVEN);
+    return NTK_DONE;
+}
+
+static unsigned mutex_abort(struct plain *k, uint32_t a)
+{
+    if (a >= PLAIN_OBJECTS)
+        return NTK_BEYOND_RANGE;
+    if (!k->mutex[a].used)
+        return NTK_NOT_IN_USE;
+    return abort_first(k, PLAIN_MUTEX + a);
+}
+
+static inline unsigned serve(struct plain *k, uint8_t kind, uint32_t a, uint32_t b, uint32_t c)
+{
+    if (kind & NTK_INTERRUPT) {
+        kind &= (uint8_t)~NTK_INTERRUPT;
+        if (kind != NTK_TICK && kind != NTK_SEMAPHORE_POST)
+            return NTK_BY_INTERRUPT;
+    }
+    switch (kind) {
+    case NTK_TASK_CREATE:
+        return task_create(k, a, b, c);
+    case NTK_TASK_DELETE:
+        return task_delete(k, a);
+    case NTK_CHANGE_PRIORITY:
+        return change_priority(k, a, b);
+    case NTK_SUSPEND:
+        return suspend(k, a);
+    case NTK_RESUME:
+        return resume(k, a);
+    case NTK_YIELD:
+        return yield(k);
+    case NTK_DELAY:
+        return delay(k, a);
+    case NTK_DELAY_RESUME:
+        return delay_resume(k, a);
+    case NTK_LOCK:
+        return lock(k);
+    case NTK_UNLOCK:
+        return unlock(k);
+    case NTK_TICK:
+        return tick(k);
+    case NTK_SEMAPHORE_CREATE:
+        return semaphore_create(k, a, b);
+    case NTK_SEMAPHORE_DELETE:
+        return semaphore_delete(k, a, b);
+    case NTK_SEMAPHORE_WAIT:
+        return semaphore_wait(k, a, b, c);
+    case NTK_SEMAPHORE_POST:
+        return semaphore_post(k, a);
+    case NTK_SEMAPHORE_ABORT:
+        return semaphore_abort(k, a);
+    case NTK_MUTEX_CREATE:
+        return mutex_create(k, a);
+    case NTK_MUTEX_DELETE:
+        return mutex_delete(k, a, b);
+    case NTK_MUTEX_WAIT:
+        return mutex_wait(k, a, b, c);
+    case NTK_MUTEX_POST:
+        return mutex_post(k, a);
+    case NTK_MUTEX_ABORT:
+        return mutex_abort(k, a);
+    default:
+        return NTK_BEYOND_RANGE;
+    }
+}
+
+struct plain_outcome plain_step(struct plain *k, uint8_t kind, uint32_t a, uint32_t b, uint32_t c)
+{
+    struct plain_outcome o;
+
+    o.answer = serve(k, kind, a, b, c);
+    if (k->depth == 0)
+        k->running = k->next[PLAIN_ABLE];
+    o.runs = k->running == PLAIN_NONE ? 0 : k->running + 1u;
+    return o;
+}
+
+/* The standing rules */
+
+/* On each ring of waits the common priority must come from the base of a member or from a waiter outside. `through` has the tasks
+ * that hold a mutex and wait for one. */
+static int check_rings(const struct plain *k, uint32_t through)
+{
+    uint32_t done = 0, rest;
+
+    for (rest = through; rest; rest &= rest - 1) {
+        unsigned i = (unsigned)__builtin_ctz(rest);
+        uint32_t path = 0;
+        while ((through & ~done & ~path) >> i & 1) {
+            path |= UINT32_C(1) << i;
+            i = holder_before(k, i);
+        }
+        if (path >> i & 1) {
+            uint32_t ring = 0;
+            unsigned at = i;
+            do {
+                ring |= UINT32_C(1) << at;
+                at = holder_before(k, at);
+            } while (at != i);
+            if (work_of_ring(k, ring) != k->work[i])
+                return 0;
+        }
+        done |= path;
+    }
+    return 1;
+}
+
+static inline uint64_t eight(const void *at)
+{
+    uint64_t word;
+
+    memcpy(&word, at, sizeof word);
+    return word;
+}
+
+#if __BYTE_ORDER__ != __ORDER_LITTLE_ENDIAN__
+#error "plain_check reads several bytes as one number, the lowest first"
+#endif
+
+/* Several bytes are tested together where that can be done, and with few branches: most of the time goes into the 32 tasks. */
+int plain_check(const struct plain *k)
+{
+    enum { BASE = 8, STATE = 16, OBJECT = 24, OUTCOME = 48, SUSPENDED = 56 }; /* the first bits of these fields */
+    const uint64_t too_high = UINT64_C(0xFE) | UINT64_C(0xC0) << BASE | UINT64_C(0xFC) << STATE | UINT64_C(0xF0) << OBJECT |
+                              UINT64_C(0xFC) << OUTCOME;
+    const uint64_t not_able = UINT64_C(0xFF) << SUSPENDED | UINT64_C(0xFF) << STATE;
+    uint8_t place[PLAIN_TASKS], fresh[PLAIN_TASKS];
+    uint32_t held = 0, held_twice = 0, owned = 0, through = 0;
+    uint64_t wrong = 0;
+    unsigned queued = 0, bad = 0, part, i;
+
+    /* Each task by itself, and where it belongs. */
+    for (i = 0; i < PLAIN_TASKS; i++) {
+        const struct plain_task *t = &k->task[i];
+        uint64_t word = eight(t);
+        unsigned marked = k->marked >> i & 1, at = i;
+
+        fresh[i] = t->base;
+        if (!t->used) {
+            wrong |= word | eight(&t->quantum);
+            bad |= marked;
+        } else {
+            unsigned waits = word >> (STATE + 1) & 1;
+            wrong |= (word & too_high) | ((word + (UINT64_C(1) << BASE)) & UINT64_C(0xC0) << BASE); /* base 63 too */
+            bad |= word >= UINT64_C(251) << SUSPENDED;
+            bad |= t->left > t->quantum;
+            wrong |= (t->object | (marked ^ t->state)) & (waits - 1); /* a plain task has no mark, a delayed one has one */
+            wrong |= t->mark & (marked - 1);
+            bad |= (t->mark == k->tick) & marked;
+            held_twice |= held & t->held;
+            held |= t->held;
+            at = word & not_able ? i : PLAIN_ABLE;
+            at = waits ? 16u * t->state + t->object : at; /* its semaphore's head, or its mutex's */
+        }
+        place[i] = (uint8_t)at;
+        if (at != i)
+            queued++;
+        else
+            bad |= (k->next[i] ^ i) | (k->prev[i] ^ i);
+    }
+
+    /* Each object by itself */
+    for (i = 0; i < PLAIN_OBJECTS; i++) {
+        const struct plain_semaphore *s = &k->semaphore[i];
+        bad |= (s->used & ~UINT32_C(1)) | (s->count & (s->used - 1));
+    }
+    for (i = 0; i < PLAIN_OBJECTS; i++) {
+        const struct plain_mutex *m = &k->mutex[i];
+        unsigned h = m->holder;
+
+        if (m->used && h < PLAIN_TASKS) {
+            owned |= UINT32_C(1) << i;
+            bad |= (m->used > 1) | (m->nesting - 1u >= 250) | !(k->task[h].held >> i & 1) | (place[h] == PLAIN_MUTEX + i);
+        } else {
+            bad |= (m->used > 1) | m->nesting | (h ^ (m->used ? PLAIN_NONE : 0));
+        }
+    }
+    if (wrong | bad | held_twice | (held ^ owned))
+        return 0;
+
+    /* Queues: the able tasks, then eight objects at a time, of which only those with waiters are looked at. A walk comes back to its
+     * head, since each step is tested backwards. */
+    for (part = 0; part <= 4; part++) {
+        unsigned heads = part == 0 ? PLAIN_ABLE : PLAIN_SEMAPHORE + 8 * (part - 1);
+        uint64_t own = UINT64_C(0x0706050403020100) + UINT64_C(0x0101010101010101) * heads;
+        uint64_t next = part == 0 ? 0xFF : eight(k->next + heads) ^ own, prev = part == 0 ? 0 : eight(k->prev + heads) ^ own;
+
+        wrong |= part == 0 ? k->work[PLAIN_ABLE] : eight(k->work + heads);
+        while (next) {
+            unsigned at = (unsigned)__builtin_ctzll(next) / 8, head = heads + at, before = head;
+            uint8_t p = 0;
+
+            for (i = k->next[head]; i != head; i = k->next[i]) {
+                if (i >= PLAIN_TASKS || place[i] != head || k->prev[i] != before || k->work[i] < p)
+                    return 0;
+                p = k->work[i];
+                before = i;
+                queued--;
+            }
+            if (k->prev[head] != before)
+                return 0;
+            if (head < PLAIN_MUTEX) {
+                const struct plain_semaphore *s = &k->semaphore[head - PLAIN_SEMAPHORE];
+                if (!s->used || s->count != 0)
+                    return 0;
+            } else if (head < PLAIN_ABLE) {
+                unsigned h = k->mutex[head - PLAIN_MUTEX].holder, first = k->next[head];
+                if (!(owned >> (head - PLAIN_MUTEX) & 1))
+                    return 0;
+                if (k->work[first] < fresh[h])
+                    fresh[h] = k->work[first];
+                if (place[h] >= PLAIN_MUTEX && place[h] < PLAIN_ABLE)
+                    through |= UINT32_C(1) << h;
+            }
+            next &= ~(UINT64_C(0xFF) << 8 * at);
+            prev &= ~(UINT64_C(0xFF) << 8 * at);
+        }
+        wrong |= prev;
+    }
+
+    /* Priorities: the base and the first waiters decide, and on rings what comes from outside. */
+    if (wrong || queued != 0 || memcmp(fresh, k->work, PLAIN_TASKS) != 0 || (through && !check_rings(k, through)))
+        return 0;
+
+    /* What runs */
+    if (k->depth == 0)
+        return k->running == k->next[PLAIN_ABLE];
+    return k->depth <= 250 && (k->running == PLAIN_NONE || (k->running < PLAIN_TASKS && place[k->running] == PLAIN_ABLE));
+}

@@ -1,0 +1,69 @@
+/* plain.h: a plain C kernel with the bookkeeping of the paper's rules, for comparison with the port: a struct behind a pointer, no
+ * byte image, nothing proved. It answers as ntk_step does, and plain_check tests the same standing rules. */
+#ifndef PLAIN_H
+#define PLAIN_H
+
+#include <stdint.h>
+
+enum { PLAIN_TASKS = 32, PLAIN_OBJECTS = 16 };
+
+/* Each queue is a ring of nodes through a node of its own: node i is task i, then come the heads of the queues. A task in no queue
+ * is a ring by itself. The head of the able queue stands for "no task" as well: it is what an empty able queue has first. */
+enum { PLAIN_SEMAPHORE = 32, PLAIN_MUTEX = 48, PLAIN_ABLE = 64, PLAIN_NONE = PLAIN_ABLE, PLAIN_NODES = 65 };
+
+enum plain_state { PLAIN_PLAIN, PLAIN_DELAYED, PLAIN_WAITS_SEMAPHORE, PLAIN_WAITS_MUTEX };
+
+/* plain_check tests the first eight bytes together: it knows their places. */
+struct plain_task {
+    uint8_t used;
+    uint8_t base;
+    uint8_t state;   /* enum plain_state */
+    uint8_t object;  /* that it waits for, else 0 */
+    uint16_t held;   /* the mutexes that it holds, a bit each */
+    uint8_t outcome; /* of its last wait */
+    uint8_t suspended;
+    uint16_t quantum;
+    uint16_t left;
+    uint32_t mark; /* due mark; 0 where its bit in `marked` is not set */
+};
+
+struct plain_semaphore {
+    uint32_t used;
+    uint32_t count;
+};
+
+struct plain_mutex {
+    uint8_t used;
+    uint8_t holder; /* PLAIN_NONE for none, 0 where not in use */
+    uint8_t nesting;
+};
+
+struct plain {
+    uint32_t tick;
+    uint32_t marked; /* the tasks with a due mark, a bit each */
+    struct plain_task task[PLAIN_TASKS];
+    struct plain_semaphore semaphore[PLAIN_OBJECTS];
+    struct plain_mutex mutex[PLAIN_OBJECTS];
+    uint8_t next[PLAIN_NODES];
+    uint8_t prev[PLAIN_NODES];
+    uint8_t work[PLAIN_NODES]; /* working priorities; 0 for heads and free tasks */
+    uint8_t depth;
+    uint8_t running; /* PLAIN_NONE for none */
+};
+
+/* `runs` is the task to run, plus 1; 0 is none. */
+struct plain_outcome {
+    uint32_t answer;
+    uint32_t runs;
+};
+
+/* Makes the fresh table. */
+void plain_fresh(struct plain *k);
+
+/* One call, kinds and numbers as in nonthachak.h. The table must be sound. */
+struct plain_outcome plain_step(struct plain *k, uint8_t kind, uint32_t a, uint32_t b, uint32_t c);
+
+/* 1 where the table meets every standing rule, else 0; for any contents. */
+int plain_check(const struct plain *k);
+
+#endif

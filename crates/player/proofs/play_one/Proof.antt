@@ -1,0 +1,82 @@
+use Rattle.player.specs.Part.{takenBy}
+use Rattle.player.proofs.Turns.{full-turn, idle-turn, call-turn}
+use mathlib.Core.Path.{sym, ap, _∙_}
+use borrow.Author.Needs.{needs}
+use Rattle.player.proofs.play_one.Statement.{statement}
+use Rattle.player.proofs.play_one.Tie as tie
+
+sub-if1 : tie.Need-sub-if1
+sub-if1 c = search needs
+
+returns : tie.Need-returns
+returns c = full-turn _ _ _ _ (c .if1 .taken)
+
+read-call-requires : tie.Need-read-call-requires
+read-call-requires c κs = search needs
+
+enum-known-next : tie.Need-enum-known-next
+enum-known-next c = search needs
+
+serve-requires : tie.Need-serve-requires
+serve-requires c κs = search needs
+
+get-running-requires : tie.Need-get-running-requires
+get-running-requires c κs = search needs
+
+write-line-requires : tie.Need-write-line-requires
+write-line-requires c κs = search needs
+
+enum-told : tie.Need-enum-told
+enum-told c = search needs
+
+enum-told-2 : tie.Need-enum-told-2
+enum-told-2 c = search needs
+
+enum-told-3 : tie.Need-enum-told-3
+enum-told-3 c = search needs
+
+same-length : tie.Need-same-length
+same-length c = search needs
+
+same-length-2 : tie.Need-same-length-2
+same-length-2 c = search needs
+
+returns-2 : tie.Need-returns-2
+returns-2 c = let e = c .before .before .before .before .before .before .before .before .before .before .before in
+    call-turn _ _ _ _ _ _ (e .before .before .before .if1 .left) (sym (e .before .before .read-call .ensures) ∙ e .next .given .1)
+    (c .before .before .before .before .before .before .before .before .serve .ensures)
+    (c .before .before .before .before .get-running .ensures)
+    (c .before .before .write-line .ensures)
+
+returns-3 : tie.Need-returns-3
+unfolding takenBy
+returns-3 c = idle-turn _ _ _ _ _ (c .before .before .before .if1 .left) (ap (takenBy _ _) (sym (c .before .before .read-call .ensures) ∙ c .enum-told .given .1))
+
+returns-4 : tie.Need-returns-4
+unfolding takenBy
+returns-4 c = idle-turn _ _ _ _ _ (c .before .before .before .if1 .left) (ap (takenBy _ _) (sym (c .before .before .read-call .ensures) ∙ c .enum-told2 .given .1))
+
+returns-5 : tie.Need-returns-5
+unfolding takenBy
+returns-5 c = idle-turn _ _ _ _ _ (c .before .before .before .if1 .left) (ap (takenBy _ _) (sym (c .before .before .read-call .ensures) ∙ c .enum-told3 .given .1))
+
+pub play-one-spec : {M : Type 1} → statement M
+play-one-spec =
+    tie.close
+    (tie.spec
+    sub-if1
+    returns
+    read-call-requires
+    enum-known-next
+    serve-requires
+    get-running-requires
+    write-line-requires
+    enum-told
+    enum-told-2
+    enum-told-3
+    same-length
+    same-length-2
+    returns-2
+    returns-3
+    returns-4
+    returns-5)

@@ -1,0 +1,68 @@
+-- What the port answers, and the bytes that it leaves, for any bytes of any length. Assumes nothing.
+use mathlib.Core.Path.{_≡_, refl, sym, ap, _∙_}
+use mathlib.Core.Bool.{Bool, true, cond}
+use mathlib.Core.List.{List}
+use Prim.Native.Nat.{ℕ}
+use lib.Dec.{eqb}
+use lib.ListN.{length}
+use Rattle.rules.specs.Sizes.{beyondRange, byInterrupt}
+use Rattle.rules.specs.Table.{Table}
+use Rattle.rules.specs.Sound.{isSound}
+use Rattle.rules.specs.Step.{Outcome, serve, step, unsound, changes}
+use Rattle.rules.specs.Port.{reading, unknown, says, portStep}
+use Rattle.rules.specs.declared.Reading.{Reading}
+use Rattle.rules.specs.declared.Reading.the-variants.{Says, Unknown}
+use Rattle.table.specs.Image.{imageSize, view}
+use Rattle.table.specs.Written.{imageOf}
+
+-- Where the bytes are an image's by their length, what the rules say of the table that they show; else 15.
+unfoldable pub sized : (Table → Outcome) → List ℕ → Outcome
+sized rule l = let o = rule (view l) in cond (eqb (length l) imageSize) o (unsound (view l))
+
+unfoldable pub outcomeOf : ℕ → (a b c : ℕ) → List ℕ → Outcome
+outcomeOf kind a b c l = sized (portStep kind a b c) l
+
+-- ---- the same without the test of the table
+
+unfoldable pub plainly : Reading → Table → Outcome
+plainly (Says c interrupt) t = serve c interrupt t
+plainly (Unknown interrupt) t = record { answer = cond interrupt byInterrupt beyondRange; table = t; runs = t .running }
+
+unfoldable pub serveOf : ℕ → (a b c : ℕ) → List ℕ → Outcome
+serveOf kind a b c l = sized (plainly (reading kind a b c)) l
+
+-- The rules test the table, and then do as `plainly` does.
+pub tested : (r : Reading) (t : Table) → says r t ≡ cond (isSound t) (plainly r t) (unsound t)
+unfolding says plainly unknown step
+tested (Says c interrupt) t = refl
+tested (Unknown interrupt) t = refl
+
+-- On a sound table the two are the same.
+pub same-where-sound : (kind a b c : ℕ) (l : List ℕ) → isSound (view l) ≡ true → serveOf kind a b c l ≡ outcomeOf kind a b c l
+unfolding serveOf outcomeOf portStep sized
+same-where-sound kind a b c l e =
+    let o = plainly (reading kind a b c) (view l) in
+    ap (λ (z : Outcome). cond (eqb (length l) imageSize) z (unsound (view l)))
+    (sym (tested (reading kind a b c) (view l) ∙ ap (λ (x : Bool). cond x o (unsound (view l))) e))
+
+-- ---- the bytes at exit
+
+-- Where the answer changes anything, the image of the new table; else the bytes that came.
+unfoldable pub bytesAfter : Outcome → List ℕ → List ℕ
+bytesAfter o l = cond (changes (o .answer)) (imageOf (o .table)) l
+
+-- From the bytes l: the answer x, the task v to run, and the bytes m at exit are those of the outcome o.
+pub record Gives (o : Outcome) (l : List ℕ) (x v : ℕ) (m : List ℕ) : Type 0 where
+  pub answer : x ≡ o .answer
+  pub runs : v ≡ o .runs
+  pub bytes : m ≡ bytesAfter o l
+
+abbrev pub Stepped : (kind a b c : ℕ) (l : List ℕ) (answer runs : ℕ) (m : List ℕ) → Type 0
+Stepped kind a b c l = Gives (outcomeOf kind a b c l) l
+
+abbrev pub ServedPlainly : (kind a b c : ℕ) (l : List ℕ) (answer runs : ℕ) (m : List ℕ) → Type 0
+ServedPlainly kind a b c l = Gives (serveOf kind a b c l) l
+
+-- No two results meet the promise for one input: neither of `ntk_step` nor of `ntk_serve`.
+pub determined : {o : Outcome} {l : List ℕ} {x y v w : ℕ} {m n : List ℕ} → Gives o l x v m → Gives o l y w n → (x ≡ y) × (v ≡ w) × (m ≡ n)
+determined p q = (p .answer ∙ sym (q .answer), p .runs ∙ sym (q .runs), p .bytes ∙ sym (q .bytes))

@@ -1,0 +1,90 @@
+// The steps that the C port calls: a kind, three numbers and the table's byte image. Every input is taken.
+ghost use mathlib.Core.Path.{_≡_};
+ghost use mathlib.Core.Bool.{cond};
+ghost use Rattle.rules.specs.Sizes.{byInterrupt, beyondRange, notSound};
+ghost use Rattle.rules.specs.Step.{serve};
+ghost use Rattle.rules.specs.Port.{reading};
+ghost use Rattle.table.specs.Image.{Image, view};
+ghost use Rattle.port.specs.Step.{plainly, Gives, Stepped, ServedPlainly};
+
+// How a call was answered, and the task to run: its number plus 1, 0 for none.
+#[repr(C)]
+pub struct NtkOutcome {
+    pub answer: u32,
+    pub runs: u32,
+}
+
+fn outcome(answer: u8, runs: u8) -> NtkOutcome
+    ensures { λ r. ⌜ (r .answer ≡ answer) × (r .runs ≡ runs) ⌝ }
+{
+    NtkOutcome {
+        answer: answer as u32,
+        runs: runs as u32,
+    }
+}
+
+// The table is not sound, or the image's length is wrong: no task is to run.
+fn not_sound() -> NtkOutcome
+    ensures { λ r. ⌜ (r .answer ≡ notSound) × (r .runs ≡ 0) ⌝ }
+{
+    outcome(15, 0)
+}
+
+// A call of the list.
+fn serve_call(call: rules::Call, interrupt: bool, image: &mut [u8]) -> NtkOutcome
+    requires { ⌜ Image (now image) ⌝ }
+    ensures { λ r. ⌜ Gives (serve call interrupt (view (now (image .entry)))) (now (image .entry)) (r .answer) (r .runs) (now (image .exit)) ⌝ }
+{
+    let n = calls::serve(image, call, interrupt);
+    let v = table::cells::get_running(image);
+    outcome(n, v)
+}
+
+// A kind that the list lacks.
+fn refuse_kind(interrupt: bool, image: &[u8]) -> NtkOutcome
+    requires { ⌜ Image (now image) ⌝ }
+    ensures { λ r. ⌜ (r .answer ≡ cond interrupt byInterrupt beyondRange) × (r .runs ≡ view (now (image .entry)) .running) ⌝ }
+{
+    let v = table::cells::get_running(image);
+    if interrupt {
+        return outcome(5, v);
+    }
+    outcome(1, v)
+}
+
+// A call on an image whose table is taken to be sound.
+fn serve_plainly(kind: u8, a: u32, b: u32, c: u32, image: &mut [u8]) -> NtkOutcome
+    requires { ⌜ Image (now image) ⌝ }
+    ensures { λ r. ⌜ Gives (plainly (reading kind a b c) (view (now (image .entry)))) (now (image .entry)) (r .answer) (r .runs) (now (image .exit)) ⌝ }
+{
+    let reading = kinds::reading_of(kind, a, b, c);
+    match reading {
+        rules::Reading::Says(call, interrupt) => serve_call(call, interrupt, image),
+        rules::Reading::Unknown(interrupt) => refuse_kind(interrupt, image),
+    }
+}
+
+// A call on any bytes.
+#[no_mangle]
+pub extern "C" fn ntk_step(kind: u8, a: u32, b: u32, c: u32, image: &mut [u8]) -> NtkOutcome
+    ensures { λ r. ⌜ Stepped kind a b c (now (image .entry)) (r .answer) (r .runs) (now (image .exit)) ⌝ }
+{
+    if image.len() != table::cells::IMAGE_SIZE {
+        return not_sound();
+    }
+    if !sound::is_sound(image) {
+        return not_sound();
+    }
+    serve_plainly(kind, a, b, c, image)
+}
+
+// The same without the test of the table: for an image that this library alone has changed since it was zeroed.
+#[no_mangle]
+pub extern "C" fn ntk_serve(kind: u8, a: u32, b: u32, c: u32, image: &mut [u8]) -> NtkOutcome
+    ensures { λ r. ⌜ ServedPlainly kind a b c (now (image .entry)) (r .answer) (r .runs) (now (image .exit)) ⌝ }
+{
+    if image.len() != table::cells::IMAGE_SIZE {
+        return not_sound();
+    }
+    serve_plainly(kind, a, b, c, image)
+}

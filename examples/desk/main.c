@@ -1,0 +1,67 @@
+/* A port on the desk: a table in static memory, the calls of a loop, and what runs printed. Instead of a context switch it only
+ * remembers who runs. docs/PORT.md tells how to build and run it. */
+#include <stdio.h>
+
+#include "nonthachak.h"
+
+static uint8_t table[NTK_IMAGE_SIZE]; /* zeroed: the fresh table */
+
+static uint32_t call(const char *what, uint8_t kind, uint32_t a, uint32_t b, uint32_t c)
+{
+    struct ntk_outcome o = ntk_step(kind, a, b, c, table, sizeof table);
+    printf("%-34s answer %2u, ", what, (unsigned)o.answer);
+    if (o.runs == 0)
+        printf("none runs\n");
+    else
+        printf("task %u runs\n", (unsigned)(o.runs - 1));
+    return o.answer;
+}
+
+/* The case P1 of the bench. */
+static void first_case(void)
+{
+    puts("P1:");
+    call("create task 3, base 10", NTK_TASK_CREATE, 3, 10, 2);
+    call("create mutex 0", NTK_MUTEX_CREATE, 0, 0, 0);
+    call("task 3 takes mutex 0", NTK_MUTEX_WAIT, 0, 1, 0);
+    call("create task 1, base 5", NTK_TASK_CREATE, 1, 5, 0);
+    call("task 1 waits for mutex 0", NTK_MUTEX_WAIT, 0, 1, 0);
+    call("create task 2, base 7", NTK_TASK_CREATE, 2, 7, 0);
+    call("task 3 posts mutex 0", NTK_MUTEX_POST, 0, 0, 0);
+}
+
+/* The loop that lost eleven frames: the decoder holds two mutexes, the output waits for the one and the reader for the other. The
+ * decoder stays raised until it has released both. */
+static void two_mutexes(void)
+{
+    enum { READER = 8, DECODER = 9, OUTPUT = 10, KEEPER = 11, FRAMES = 4, CLOCK = 5 };
+    unsigned i;
+
+    puts("the kiosk's loop:");
+    for (i = 0; i < sizeof table; i++)
+        table[i] = 0;
+    call("create the decoder, base 30", NTK_TASK_CREATE, DECODER, 30, 0);
+    call("create the mutex of the frames", NTK_MUTEX_CREATE, FRAMES, 0, 0);
+    call("create the mutex of the clock", NTK_MUTEX_CREATE, CLOCK, 0, 0);
+    call("decoder takes the frames", NTK_MUTEX_WAIT, FRAMES, 1, 0);
+    call("decoder takes the clock", NTK_MUTEX_WAIT, CLOCK, 1, 0);
+    call("create the reader, base 20", NTK_TASK_CREATE, READER, 20, 0);
+    call("reader waits for the clock", NTK_MUTEX_WAIT, CLOCK, 1, 0);
+    call("create the output, base 10", NTK_TASK_CREATE, OUTPUT, 10, 0);
+    call("output waits for the frames", NTK_MUTEX_WAIT, FRAMES, 1, 0);
+    call("create the housekeeper, base 25", NTK_TASK_CREATE, KEEPER, 25, 0);
+    call("decoder posts the frames", NTK_MUTEX_POST, FRAMES, 0, 0);
+    call("output sleeps 2 ticks", NTK_DELAY, 2, 0, 0);
+    printf("  the decoder still works at the reader's 20: %u\n", table[DECODER]);
+    call("decoder posts the clock", NTK_MUTEX_POST, CLOCK, 0, 0);
+    call("tick", NTK_TICK | NTK_INTERRUPT, 0, 0, 0);
+    call("tick", NTK_TICK | NTK_INTERRUPT, 0, 0, 0);
+    printf("  the output's delay ended with outcome %u\n", (unsigned)ntk_wait_of(table, OUTPUT));
+}
+
+int main(void)
+{
+    first_case();
+    two_mutexes();
+    return 0;
+}

@@ -1,0 +1,639 @@
+//! Compares the port's static library with the model, from outside.
+//!
+//!     compare random  [CALLS]  [--seed S] [--longest L]
+//!     compare damage  [IMAGES] [--seed S] [--all-bits T] [--each E]
+//!     compare lengths          [--seed S] [--up-to L]
+//!     compare kinds            [--seed S] [--tables T]
+//!     compare tape FILE..
+//!     compare all              [--seed S]
+//!
+//! S is a number or `now`. At the first difference the program tells it and exits with 1.
+
+mod damage;
+mod kernel;
+mod random;
+
+use kernel::{body, meaning, read_call, write_call, Call, Kernel, Outcome, State, IMAGE, KINDS, RULES};
+use random::{Caller, Random, BORDERS};
+use std::collections::BTreeMap;
+use std::time::Instant;
+
+// ---------------------------------------------------------------------------------------------------
+// The port
+
+#[repr(C)]
+#[derive(Clone, Copy, PartialEq, Eq)]
+struct NtkOutcome {
+    answer: u32,
+    runs: u32,
+}
+
+extern "C" {
+    fn ntk_step(kind: u8, a: u32, b: u32, c: u32, image: *mut u8, length: usize) -> NtkOutcome;
+}
+
+/// The bytes lent to the port, between guards that it must not touch, at any alignment.
+struct Lent {
+    bytes: Vec<u8>,
+    from: usize,
+    to: usize,
+}
+
+const GUARD: usize = 24;
+const GUARD_BYTE: u8 = 0xC3;
+
+impl Lent {
+    fn new(image: &[u8], shift: usize) -> Lent {
+        let from = GUARD + shift % 8;
+        let to = from + image.len();
+        let mut bytes = vec![GUARD_BYTE; to + GUARD];
+        bytes[from..to].copy_from_slice(image);
+        Lent { bytes, from, to }
+    }
+
+    fn image(&self) -> &[u8] {
+        &self.bytes[self.from..self.to]
+    }
+
+    fn lend(&mut self, image: &[u8]) {
+        self.bytes[self.from..self.to].copy_from_slice(image);
+    }
+
+    fn guards_hold(&self) -> bool {
+        let whole = |guard: &[u8]| guard.iter().all(|&byte| byte == GUARD_BYTE);
+        whole(&self.bytes[..self.from]) && whole(&self.bytes[self.to..])
+    }
+
+    fn step(&mut self, call: Call) -> NtkOutcome {
+        let image = &mut self.bytes[self.from..self.to];
+        unsafe { ntk_step(call.kind, call.a, call.b, call.c, image.as_mut_ptr(), image.len()) }
+    }
+}
+
+// ---------------------------------------------------------------------------------------------------
+// One comparison
+
+struct Difference {
+    call: Call,
+    model: NtkOutcome,
+    port: NtkOutcome,
+    /// place, the model's byte, the port's byte
+    byte: Option<(usize, u8, u8)>,
+    guards_hold: bool,
+}
+
+fn expected(outcome: Outcome) -> NtkOutcome {
+    NtkOutcome { answer: outcome.answer, runs: outcome.runs.map_or(0, |t| t as u32 + 1) }
+}
+
+/// "With 15 the task to run is none."
+const UNSOUND: NtkOutcome = NtkOutcome { answer: 15, runs: 0 };
+
+/// Makes a call on the lent image and compares with the model's outcome and image.
+fn compare(lent: &mut Lent, call: Call, model: NtkOutcome, after: &[u8]) -> Result<(), Difference> {
+    let port = lent.step(call);
+    let guards_hold = lent.guards_hold();
+    if port == model && lent.image() == after && guards_hold {
+        return Ok(());
+    }
+    let byte = (0..after.len()).find(|&i| lent.image()[i] != after[i]).map(|i| (i, after[i], lent.image()[i]));
+    Err(Difference { call, model, port, byte, guards_hold })
+}
+
+/// A step of the model and of the port side by side.
+fn step_both(kernel: &mut Kernel, lent: &mut Lent, call: Call) -> Result<u32, Difference> {
+    let outcome = kernel.step(call);
+    if !kernel.sound() {
+        println!("the model itself left an unsound table after {}", in_words(call));
+        std::process::exit(2);
+    }
+    compare(lent, call, expected(outcome), &kernel.encode())?;
+    Ok(outcome.answer)
+}
+
+// ---------------------------------------------------------------------------------------------------
+// Reports
+
+fn hex(bytes: &[u8]) -> String {
+    bytes.iter().map(|byte| format!("{byte:02X}")).collect::<Vec<_>>().join(" ")
+}
+
+/// A call as tape hex, or with its numbers where a tape cannot carry it.
+fn in_words(call: Call) -> String {
+    match write_call(call) {
+        Some(bytes) => hex(&bytes),
+        None => format!("(port only: kind {:02X}, numbers {} {} {})", call.kind, call.a, call.b, call.c),
+    }
+}
+
+fn all_in_words(calls: &[Call]) -> String {
+    calls.iter().map(|&call| in_words(call)).collect::<Vec<_>>().join(" / ")
+}
+
+/// What of an image is not zero, with its meaning.
+fn tell_image(image: &[u8]) {
+    for (i, byte) in image.iter().enumerate().filter(|(_, &byte)| byte != 0) {
+        println!("    {i:4} = {byte:3}  {}", meaning(i));
+    }
+}
+
+fn tell_difference(difference: &Difference) {
+    let outcome = |o: NtkOutcome| {
+        let runs = if o.runs == 0 { "-".to_string() } else { o.runs.wrapping_sub(1).to_string() };
+        format!("{} {runs}", o.answer)
+    };
+    println!("  call   {}", in_words(difference.call));
+    println!("  model  {}", outcome(difference.model));
+    println!("  port   {}", outcome(difference.port));
+    match difference.byte {
+        Some((i, model, port)) => {
+            println!("  first differing byte: {i} ({}): model {model}, port {port}", meaning(i));
+        }
+        None => println!("  the images are equal"),
+    }
+    if !difference.guards_hold {
+        println!("  the port wrote outside the image");
+    }
+}
+
+fn fail() -> ! {
+    std::process::exit(1)
+}
+
+// ---------------------------------------------------------------------------------------------------
+// random
+
+/// What the sequences met, to show that they reach the corners.
+#[derive(Default)]
+struct Met {
+    /// by kind and answer
+    answers: BTreeMap<(u8, u32), u64>,
+    longest_chain: usize,
+    rings: u64,
+    largest_ring: usize,
+    wraps: u64,
+    suspended_given: u64,
+    forced: u64,
+    forced_on_ring: u64,
+    several_due: u64,
+    locked: u64,
+}
+
+impl Met {
+    fn note(&mut self, before: &Kernel, after: &Kernel, call: Call, answer: u32) {
+        *self.answers.entry((call.kind & 0x7F, answer)).or_default() += 1;
+        self.locked += u64::from(before.depth > 0);
+        if answer == 14 {
+            self.note_chain(after, before.running.unwrap());
+        }
+        if answer != 0 {
+            return;
+        }
+        let waits = |t: usize| before.tasks[t].suspends > 0 && before.tasks[t].state != State::Plain;
+        let ended = |t: usize| after.tasks[t].used && after.tasks[t].state == State::Plain;
+        match call.kind & 0x7F {
+            0x0B => {
+                self.wraps += u64::from(after.tick == 0);
+                let due = before.tasks.iter().filter(|task| task.mark == Some(after.tick)).count();
+                self.several_due += u64::from(due > 1);
+            }
+            0x13 | 0x23 => self.suspended_given += u64::from((0..32).any(|t| waits(t) && ended(t))),
+            0x21 => {
+                let mutex = &before.mutexes[call.a as usize];
+                self.forced += u64::from(mutex.queue.len() > 1);
+                let ring = |&t: &usize| before.leads(mutex.holder.unwrap(), t);
+                self.forced_on_ring += u64::from(mutex.queue.iter().any(ring));
+            }
+            _ => {}
+        }
+    }
+
+    fn note_chain(&mut self, after: &Kernel, caller: usize) {
+        let chain = after.chain(caller);
+        self.longest_chain = self.longest_chain.max(chain.len());
+        if after.waits_for_holder(*chain.last().unwrap()).is_some() {
+            self.rings += 1;
+            self.largest_ring = self.largest_ring.max(chain.len());
+        }
+    }
+
+    fn tell(&self) {
+        println!("  longest chain {}, rings closed {} (largest {})", self.longest_chain, self.rings, self.largest_ring);
+        println!("  tick wraps {}, ticks with several due {}, calls when locked {}", self.wraps, self.several_due, self.locked);
+        println!("  suspended waiters given {}, forced mutex deletes with several waiters {}, on a ring {}", self.suspended_given, self.forced, self.forced_on_ring);
+        let mut unmet = vec![];
+        for (kind, name, _) in KINDS {
+            let counts = self.answers.range((kind, 0)..=(kind, 15));
+            let list: Vec<String> = counts.map(|((_, answer), count)| format!("{answer}: {count}")).collect();
+            println!("  {kind:02X} {name:17} {}", list.join(", "));
+            let missing = possible(kind).iter().filter(|&&answer| !self.answers.contains_key(&(kind, answer)));
+            unmet.extend(missing.map(|answer| format!("{name} {answer}")));
+        }
+        if unmet.is_empty() {
+            println!("  every answer that a kind can give was met");
+        } else {
+            println!("  not met: {}", unmet.join(", "));
+        }
+    }
+}
+
+/// The answers that a kind can give on a sound table.
+fn possible(kind: u8) -> &'static [u32] {
+    match kind {
+        0x01 => &[0, 1, 3, 4, 5],
+        0x02 => &[0, 1, 2, 5, 7, 13],
+        0x03 => &[0, 1, 2, 4, 5],
+        0x04 => &[0, 1, 2, 5, 7, 10],
+        0x05 | 0x08 | 0x14 | 0x24 => &[0, 1, 2, 5, 12],
+        0x06 => &[0, 5, 6, 7, 12],
+        0x07 => &[0, 4, 5, 6, 7],
+        0x09 => &[0, 5, 10],
+        0x0A => &[0, 5, 12],
+        0x0B => &[0],
+        0x10 | 0x20 => &[0, 1, 3, 5],
+        0x11 | 0x21 => &[0, 1, 2, 4, 5, 13],
+        0x12 => &[0, 1, 2, 4, 5, 6, 7, 8, 14],
+        0x13 => &[0, 1, 2, 11],
+        0x22 => &[0, 1, 2, 4, 5, 6, 7, 8, 10, 14],
+        0x23 => &[0, 1, 2, 5, 6, 9],
+        _ => &[],
+    }
+}
+
+/// Plays one sequence; the calls made so far are left in `calls`.
+fn sequence(seed: u64, longest: usize, calls: &mut Vec<Call>, met: &mut Met) -> Result<(), (Kernel, Difference)> {
+    let mut random = Random::new(seed);
+    let start = random::start(&mut random);
+    let mut caller = Caller::new(&mut random);
+    let mut kernel = start.clone();
+    let mut lent = Lent::new(&start.encode(), seed as usize);
+    for _ in 0..random.between(1, longest) {
+        let call = caller.next(&mut random, &kernel);
+        let before = kernel.clone();
+        calls.push(call);
+        match step_both(&mut kernel, &mut lent, call) {
+            Ok(answer) => met.note(&before, &kernel, call, answer),
+            Err(difference) => return Err((start, difference)),
+        }
+    }
+    Ok(())
+}
+
+/// The first difference of a list of calls, if it has one.
+fn replay(start: &Kernel, calls: &[Call]) -> Option<Difference> {
+    let mut kernel = start.clone();
+    let mut lent = Lent::new(&start.encode(), 0);
+    calls.iter().find_map(|&call| step_both(&mut kernel, &mut lent, call).err())
+}
+
+/// Leaves out calls, many at a time and then single ones, as long as a difference stays.
+fn shortened(start: &Kernel, calls: &[Call]) -> Vec<Call> {
+    let mut calls = calls.to_vec();
+    let mut size = calls.len() / 2;
+    while size > 0 {
+        let mut from = 0;
+        while from < calls.len() {
+            let mut fewer = calls.clone();
+            fewer.drain(from..(from + size).min(calls.len()));
+            if replay(start, &fewer).is_some() { calls = fewer } else { from += size }
+        }
+        size /= 2;
+    }
+    calls
+}
+
+fn tell_start(start: &Kernel) {
+    if *start == Kernel::fresh() {
+        println!("  from the fresh table");
+    } else {
+        println!("  from this table (bytes that are not 0):");
+        tell_image(&start.encode());
+    }
+}
+
+fn random_calls(count: usize, seed: u64, longest: usize) {
+    println!("random: {count} calls, seed {seed}");
+    let began = Instant::now();
+    let mut met = Met::default();
+    let (mut made, mut sequences) = (0, 0);
+    while made < count {
+        let own = seed.wrapping_add(sequences);
+        let mut calls = vec![];
+        if let Err((start, difference)) = sequence(own, longest, &mut calls, &mut met) {
+            println!("DIFFERENCE in the sequence with seed {own} (again: random 1 --seed {own} --longest {longest})");
+            tell_start(&start);
+            println!("  calls so far: {}", all_in_words(&calls));
+            tell_difference(&difference);
+            let short = shortened(&start, &calls);
+            if let Some(difference) = replay(&start, &short) {
+                println!("a shorter list with a difference: {}", all_in_words(&short));
+                tell_difference(&difference);
+            }
+            fail();
+        }
+        made += calls.len();
+        sequences += 1;
+    }
+    met.tell();
+    tell_speed(made, "calls", began);
+    println!("  {made} calls in {sequences} sequences agree");
+}
+
+fn tell_speed(made: usize, what: &str, began: Instant) {
+    let seconds = began.elapsed().as_secs_f64();
+    println!("  {seconds:.1} s, {:.0} {what} a second", made as f64 / seconds);
+}
+
+// ---------------------------------------------------------------------------------------------------
+// damage
+
+/// A table that calls reach, worked out by the model alone, and how.
+fn reached(random: &mut Random) -> (Kernel, Caller) {
+    let mut kernel = random::start(random);
+    let mut caller = Caller::new(random);
+    for _ in 0..random.between(10, 300) {
+        let call = caller.next(random, &kernel);
+        kernel.step(call);
+    }
+    (kernel, caller)
+}
+
+/// The richest of some such tables.
+fn rich(random: &mut Random) -> (Kernel, Caller) {
+    let filled = |kernel: &Kernel| kernel.encode().iter().filter(|&&byte| byte != 0).count();
+    (0..8).map(|_| reached(random)).max_by_key(|(kernel, _)| filled(kernel)).unwrap()
+}
+
+#[derive(Default)]
+struct Judged {
+    sound: usize,
+    unsound: usize,
+    alone: [usize; RULES.len()],
+    with_others: [usize; RULES.len()],
+}
+
+impl Judged {
+    fn note(&mut self, broken: &[usize]) {
+        self.unsound += 1;
+        for &rule in broken {
+            if broken.len() == 1 { self.alone[rule] += 1 } else { self.with_others[rule] += 1 }
+        }
+    }
+
+    fn tell(&self) {
+        println!("  {} unsound, {} sound; rules broken alone, with others:", self.unsound, self.sound);
+        for (rule, name) in RULES.iter().enumerate() {
+            println!("  {:8} {:8}  {name}", self.alone[rule], self.with_others[rule]);
+        }
+    }
+}
+
+/// One call on a damaged image: 15 and unchanged bytes where the model finds it unsound, else its step.
+fn on_damaged(lent: &mut Lent, image: &[u8], call: Call, judged: &mut Judged) -> Result<(), (Difference, Vec<usize>)> {
+    lent.lend(image);
+    match Kernel::judge(image) {
+        Err(broken) => {
+            judged.note(&broken);
+            compare(lent, call, UNSOUND, image).map_err(|difference| (difference, broken))
+        }
+        Ok(mut kernel) => {
+            judged.sound += 1;
+            step_both(&mut kernel, lent, call).map(|_| ()).map_err(|difference| (difference, vec![]))
+        }
+    }
+}
+
+fn damaged_images(count: usize, seed: u64, all_bits: usize, each: usize) {
+    println!("damage: {count} images, seed {seed}, every single bit of {all_bits} tables, then {each} of each table");
+    let began = Instant::now();
+    let mut judged = Judged::default();
+    let (mut made, mut tables) = (0, 0u64);
+    let mut other = Kernel::fresh().encode();
+    while made < count {
+        let own = seed.wrapping_add(tables);
+        let mut random = Random::new(own);
+        let every_bit = tables < all_bits as u64;
+        let (kernel, mut caller) = if every_bit { rich(&mut random) } else { reached(&mut random) };
+        let image = kernel.encode();
+        let mut lent = Lent::new(&image, own as usize);
+        let damages = if every_bit { 8 * IMAGE } else { each }.min(count - made);
+        for i in 0..damages {
+            let damaged = if every_bit { one_bit(&image, i) } else { damage::damaged(&mut random, &kernel, &other) };
+            let call = caller.next(&mut random, &kernel);
+            if let Err((difference, broken)) = on_damaged(&mut lent, &damaged, call, &mut judged) {
+                println!("DIFFERENCE at table {tables} (seed {own}), damage {i}");
+                tell_damage(&image, &damaged, &broken);
+                tell_difference(&difference);
+                println!("  the whole damaged image: {}", hex(&damaged));
+                fail();
+            }
+        }
+        other = image;
+        made += damages;
+        tables += 1;
+    }
+    judged.tell();
+    tell_speed(made, "images", began);
+    println!("  {made} damaged images of {tables} tables agree");
+}
+
+fn one_bit(image: &[u8], bit: usize) -> Vec<u8> {
+    let mut damaged = image.to_vec();
+    damaged[bit / 8] ^= 1 << (bit % 8);
+    damaged
+}
+
+fn tell_damage(image: &[u8], damaged: &[u8], broken: &[usize]) {
+    println!("  the table before its damage (bytes that are not 0):");
+    tell_image(image);
+    println!("  damaged bytes:");
+    for i in (0..IMAGE).filter(|&i| image[i] != damaged[i]) {
+        println!("    {i:4} = {:3}, was {:3}  {}", damaged[i], image[i], meaning(i));
+    }
+    if broken.is_empty() {
+        println!("  the model finds the damaged table sound");
+    } else {
+        let names: Vec<&str> = broken.iter().map(|&rule| RULES[rule]).collect();
+        println!("  the model finds broken: {}", names.join("; "));
+    }
+}
+
+// ---------------------------------------------------------------------------------------------------
+// lengths
+
+/// Images of every other length: 15, bytes unchanged. Null with length 0.
+fn lengths(seed: u64, up_to: usize) {
+    println!("lengths: 0 to {up_to} without {IMAGE}, seed {seed}");
+    let mut random = Random::new(seed);
+    let rich = rich(&mut random).0.encode();
+    let mut made = 0;
+    for length in (0..=up_to).filter(|&length| length != IMAGE) {
+        for filling in 0..4 {
+            let image: Vec<u8> = (0..length)
+                .map(|i| match filling {
+                    0 => 0,
+                    1 => rich.get(i).copied().unwrap_or(0),
+                    2 => rich[i % IMAGE],
+                    _ => random.next() as u8,
+                })
+                .collect();
+            let kind = if filling == 1 { 0x0B } else { random.next() as u8 };
+            let call = Call { kind, a: random.border(), b: random.border(), c: random.border() };
+            let mut lent = Lent::new(&image, length);
+            made += 1;
+            if let Err(difference) = compare(&mut lent, call, UNSOUND, &image) {
+                println!("DIFFERENCE at length {length}, filling {filling}, seed {seed}");
+                tell_difference(&difference);
+                fail();
+            }
+        }
+    }
+    null_images(&mut random);
+    println!("  {made} images of wrong length agree, null with length 0 too");
+}
+
+fn null_images(random: &mut Random) {
+    for kind in 0..=255u8 {
+        let call = Call { kind, a: random.border(), b: random.border(), c: random.border() };
+        let port = unsafe { ntk_step(kind, call.a, call.b, call.c, std::ptr::null_mut(), 0) };
+        if port != UNSOUND {
+            println!("DIFFERENCE at null with length 0");
+            tell_difference(&Difference { call, model: UNSOUND, port, byte: None, guards_hold: true });
+            fail();
+        }
+    }
+}
+
+// ---------------------------------------------------------------------------------------------------
+// kinds
+
+/// A kind with border numbers: every combination of `all` of the numbers that the kind uses, and some
+/// of the others.
+fn calls_of_kind(random: &mut Random, kind: u8, all: usize) -> Vec<Call> {
+    let served = kind < 0x80 || kind == 0x93;
+    let numbers = body(kind).map_or(1, |widths| widths.len());
+    let uses = if served { numbers.min(all) } else { 1 };
+    let more = if served && numbers > all { 4 } else { 1 };
+    let mut calls = vec![];
+    for place in 0..BORDERS.len().pow(uses as u32) * more {
+        let mut numbers = [random.border(), random.border(), random.border()];
+        let mut rest = place;
+        for number in numbers.iter_mut().take(uses) {
+            *number = BORDERS[rest % BORDERS.len()];
+            rest /= BORDERS.len();
+        }
+        let [a, b, c] = numbers;
+        calls.push(Call { kind, a, b, c });
+    }
+    calls
+}
+
+/// Fresh tables, locked ones, rich ones; few of these with none running.
+fn table_for_kinds(random: &mut Random, n: usize) -> Kernel {
+    match n {
+        0 => return Kernel::fresh(),
+        1 => return Kernel { tick: u32::MAX, depth: 250, ..Kernel::fresh() },
+        _ => {}
+    }
+    loop {
+        let kernel = if n % 2 == 0 { random::table(random) } else { reached(random).0 };
+        if kernel.running.is_some() || n % 8 == 7 {
+            return kernel;
+        }
+    }
+}
+
+fn kinds(seed: u64, tables: usize) {
+    println!("kinds: 0 to 255 on {tables} tables, seed {seed}");
+    let began = Instant::now();
+    let mut made = 0;
+    let mut met = Met::default();
+    for n in 0..tables {
+        let own = seed.wrapping_add(n as u64);
+        let mut random = Random::new(own);
+        let start = table_for_kinds(&mut random, n);
+        let image = start.encode();
+        let mut lent = Lent::new(&image, n);
+        for kind in 0..=255 {
+            for call in calls_of_kind(&mut random, kind, if n < 4 { 3 } else { 2 }) {
+                let mut kernel = start.clone();
+                lent.lend(&image);
+                made += 1;
+                match step_both(&mut kernel, &mut lent, call) {
+                    Ok(answer) => met.note(&start, &kernel, call, answer),
+                    Err(difference) => {
+                        println!("DIFFERENCE at table {n} (seed {own})");
+                        tell_start(&start);
+                        tell_difference(&difference);
+                        fail();
+                    }
+                }
+            }
+        }
+    }
+    met.tell();
+    tell_speed(made, "calls", began);
+    println!("  {made} calls agree");
+}
+
+// ---------------------------------------------------------------------------------------------------
+// tape
+
+/// Plays tapes through both, to look again at a list of calls.
+fn tapes(files: &[String]) {
+    for file in files {
+        let tape = std::fs::read(file).expect("a tape file");
+        let (mut rest, mut calls) = (&tape[..], vec![]);
+        while let Some((call, after)) = read_call(rest) {
+            calls.push(call);
+            rest = after;
+        }
+        if let Some(difference) = replay(&Kernel::fresh(), &calls) {
+            println!("DIFFERENCE in {file}");
+            tell_difference(&difference);
+            fail();
+        }
+        println!("{file}: {} calls agree", calls.len());
+    }
+}
+
+// ---------------------------------------------------------------------------------------------------
+
+/// The value of a flag.
+fn flag(arguments: &[String], name: &str) -> Option<u64> {
+    let at = arguments.iter().position(|argument| argument == name)?;
+    let value = arguments.get(at + 1).unwrap_or_else(|| panic!("{name} needs a number"));
+    if value == "now" {
+        let now = std::time::SystemTime::now().duration_since(std::time::UNIX_EPOCH).unwrap();
+        return Some(now.as_nanos() as u64 & 0xFFFF_FFFF_FFFF);
+    }
+    Some(value.parse().unwrap_or_else(|_| panic!("{name} needs a number")))
+}
+
+fn main() {
+    let arguments: Vec<String> = std::env::args().skip(1).collect();
+    let mode = arguments.first().map_or("", |mode| mode.as_str());
+    let count = |usual: usize| arguments.get(1).and_then(|n| n.parse().ok()).unwrap_or(usual);
+    let number = |name: &str, usual: usize| flag(&arguments, name).map_or(usual, |n| n as usize);
+    let seed = flag(&arguments, "--seed").unwrap_or(1);
+    let damage = |images: usize| {
+        damaged_images(images, seed, number("--all-bits", images / (2 * IMAGE * 8) + 1), number("--each", 50));
+    };
+    match mode {
+        "random" => random_calls(count(1_000_000), seed, number("--longest", 400)),
+        "damage" => damage(count(100_000)),
+        "lengths" => lengths(seed, number("--up-to", 5000)),
+        "kinds" => kinds(seed, number("--tables", 40)),
+        "tape" => tapes(&arguments[1..]),
+        "all" => {
+            lengths(seed, 5000);
+            kinds(seed, 40);
+            damage(100_000);
+            random_calls(1_000_000, seed, 400);
+        }
+        _ => {
+            println!("usage: compare random [N] | damage [N] | lengths | kinds | tape FILE.. | all; flags: see compare.rs");
+            std::process::exit(2);
+        }
+    }
+}

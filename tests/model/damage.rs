@@ -1,0 +1,179 @@
+//! Damage to a table: of its bytes, and of its fields in such a way that often one rule alone breaks or
+//! another sound table comes out.
+
+use crate::kernel::{Kernel, Place, State, Task, IMAGE, OBJECTS, TASKS};
+use crate::random::{arrange, settle, Random};
+
+/// A damaged copy of the image; `other` is a second image to take bytes from.
+pub fn damaged(random: &mut Random, kernel: &Kernel, other: &[u8]) -> Vec<u8> {
+    match random.below(10) {
+        0 | 1 => damaged_bytes(random, kernel.encode(), other),
+        2 => stale_chain(random, kernel.clone()).encode(),
+        _ => damaged_fields(random, kernel.clone()).encode(),
+    }
+}
+
+fn damaged_bytes(random: &mut Random, mut image: Vec<u8>, other: &[u8]) -> Vec<u8> {
+    for _ in 0..random.between(1, 3) {
+        let at = random.below(IMAGE);
+        match random.below(5) {
+            0 => image[at] ^= 1 << random.below(8),
+            1 => image[at] = random.pick(&[0, 1, 2, 3, 16, 31, 32, 33, 62, 63, 250, 251, 255]),
+            2 => image.swap(at, random.below(IMAGE)),
+            3 => image[at] = image[at].wrapping_add(1),
+            _ => {
+                let to = (at + random.between(1, 64)).min(IMAGE);
+                image[at..to].copy_from_slice(&other[at..to]);
+            }
+        }
+    }
+    image
+}
+
+/// Another working priority all along a chain, the queues ordered by it: on a ring each task then has the
+/// least of its base and its waiters' working priorities, and yet not the one worked out afresh.
+fn stale_chain(random: &mut Random, mut kernel: Kernel) -> Kernel {
+    let waiter = random.pick_from((0..TASKS).filter(|&t| kernel.waits_for_holder(t).is_some()));
+    let mut chain = kernel.chain(waiter.unwrap_or(0));
+    if random.chance(50) {
+        chain = kernel.chain(*chain.last().unwrap()); // the whole ring, if there is one
+    }
+    let level = random.pick(&[0, 1, 4, kernel.tasks[chain[0]].working.saturating_sub(1), 62]);
+    for t in chain.into_iter().filter(|&t| kernel.tasks[t].used).collect::<Vec<_>>() {
+        kernel.tasks[t].working = level;
+    }
+    arrange(random, &mut kernel);
+    kernel
+}
+
+fn damaged_fields(random: &mut Random, mut kernel: Kernel) -> Kernel {
+    for _ in 0..random.pick(&[1, 1, 1, 2, 3]) {
+        match random.below(10) {
+            0..=3 => damage_task(random, &mut kernel),
+            4 => damage_semaphore(random, &mut kernel),
+            5 | 6 => damage_mutex(random, &mut kernel),
+            7 | 8 => damage_queue(random, &mut kernel),
+            _ => damage_rest(random, &mut kernel),
+        }
+    }
+    if random.chance(50) {
+        settle(random, &mut kernel);
+    }
+    if random.chance(10) {
+        // a rule that settling would mend, broken alone
+        if random.chance(50) { damage_queue(random, &mut kernel) } else { damage_rest(random, &mut kernel) }
+    }
+    kernel
+}
+
+/// A task in use, or now and then any.
+fn some_task(random: &mut Random, kernel: &Kernel) -> usize {
+    let used = random.pick_from((0..TASKS).filter(|&t| kernel.tasks[t].used));
+    if random.chance(90) { used.unwrap_or(0) } else { random.below(TASKS) }
+}
+
+fn damage_task(random: &mut Random, kernel: &mut Kernel) {
+    let t = some_task(random, kernel);
+    let tick = kernel.tick;
+    let task = &mut kernel.tasks[t];
+    match random.below(12) {
+        0 => task.base = random.pick(&[0, 1, 5, 7, 62, 63, 255]),
+        1 => task.working = random.pick(&[0, 1, 5, 7, 62, 63, 255]),
+        2 => task.working = if random.chance(50) { task.base } else { task.working.wrapping_sub(1) },
+        3 => task.suspends = random.pick(&[0, 1, 249, 250, 251, 255]),
+        4 => task.quantum = random.pick(&[0, 1, 256, 65535]),
+        5 => task.left = random.pick(&[0, 1, task.quantum, task.quantum.wrapping_add(1), 65535]),
+        6 | 7 => task.state = some_state(random),
+        8 | 9 => {
+            let near = [tick, tick.wrapping_add(1), tick.wrapping_sub(1), 0, u32::MAX];
+            task.mark = if random.chance(25) { None } else { Some(random.pick(&near)) };
+        }
+        10 => task.outcome = random.pick(&[0, 1, 2, 3, 4, 255]),
+        _ => free_or_use(random, task),
+    }
+}
+
+fn free_or_use(random: &mut Random, task: &mut Task) {
+    if random.chance(50) {
+        *task = Task { used: !task.used, ..Task::default() };
+    } else {
+        task.used = !task.used;
+    }
+}
+
+fn some_state(random: &mut Random) -> State {
+    match random.below(6) {
+        0 => State::Plain,
+        1 => State::Delayed,
+        2 | 3 => State::Semaphore(random.below(OBJECTS)),
+        _ => State::Mutex(random.below(OBJECTS)),
+    }
+}
+
+fn damage_semaphore(random: &mut Random, kernel: &mut Kernel) {
+    let waited = random.pick_from((0..OBJECTS).filter(|&s| !kernel.semaphores[s].queue.is_empty()));
+    let s = if random.chance(60) { waited.unwrap_or(0) } else { random.below(OBJECTS) };
+    let semaphore = &mut kernel.semaphores[s];
+    match random.below(3) {
+        0 => semaphore.used = !semaphore.used,
+        _ => semaphore.count = random.pick(&[0, 1, 256, u32::MAX]),
+    }
+}
+
+fn damage_mutex(random: &mut Random, kernel: &mut Kernel) {
+    let waited = random.pick_from((0..OBJECTS).filter(|&m| !kernel.mutexes[m].queue.is_empty()));
+    let m = if random.chance(60) { waited.unwrap_or(0) } else { random.below(OBJECTS) };
+    let waiter = kernel.mutexes[m].queue.first().copied();
+    let any = some_task(random, kernel);
+    let mutex = &mut kernel.mutexes[m];
+    match random.below(6) {
+        0 => mutex.used = !mutex.used,
+        1 => mutex.nesting = random.pick(&[0, 1, 2, 250, 251, 255]),
+        2 => mutex.holder = waiter,
+        3 => {
+            mutex.holder = None;
+            if random.chance(70) {
+                mutex.nesting = 0;
+            }
+        }
+        _ => {
+            mutex.holder = Some(any);
+            mutex.nesting = mutex.nesting.max(1);
+        }
+    }
+}
+
+fn damage_queue(random: &mut Random, kernel: &mut Kernel) {
+    let filled = random.pick_from(Kernel::places().filter(|&place| !kernel.queue(place).is_empty()));
+    let any = random.pick_from(Kernel::places()).unwrap();
+    let place = if random.chance(85) { filled.unwrap_or(Place::Able) } else { any };
+    let more = some_task(random, kernel);
+    let queue = kernel.queue_mut(place);
+    let at = random.below(queue.len().max(1));
+    match random.below(5) {
+        0 if !queue.is_empty() => {
+            queue.remove(at);
+        }
+        1 if queue.len() < TASKS => queue.insert(at, more),
+        2 if !queue.is_empty() && queue.len() < TASKS => queue.insert(at, queue[at]),
+        3 if !queue.is_empty() => queue[at] = more,
+        _ if queue.len() > 1 => {
+            let with = random.below(queue.len());
+            queue.swap(at, with);
+        }
+        _ => {}
+    }
+}
+
+fn damage_rest(random: &mut Random, kernel: &mut Kernel) {
+    let mark = random.pick_from(kernel.tasks.iter().filter_map(|task| task.mark));
+    let able = random.pick_from(kernel.able.iter().copied());
+    match random.below(6) {
+        0 => kernel.tick = mark.unwrap_or(7),
+        1 => kernel.tick = random.tick(),
+        2 => kernel.depth = random.pick(&[0, 1, 249, 250, 251, 255]),
+        3 => kernel.running = None,
+        4 => kernel.running = able,
+        _ => kernel.running = Some(random.below(TASKS)),
+    }
+}

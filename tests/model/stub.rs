@@ -1,0 +1,24 @@
+//! Stands in for the port's library, by the model itself: only for trying `compare` (see try-stubs).
+mod kernel;
+
+use kernel::{Call, Kernel};
+
+#[repr(C)]
+pub struct NtkOutcome {
+    pub answer: u32,
+    pub runs: u32,
+}
+
+/// # Safety
+/// `image` points to `length` bytes, or `length` is 0.
+#[no_mangle]
+pub unsafe extern "C" fn ntk_step(kind: u8, a: u32, b: u32, c: u32, image: *mut u8, length: usize) -> NtkOutcome {
+    let bytes = if length == 0 { &mut [] } else { std::slice::from_raw_parts_mut(image, length) };
+    let mut kernel = match Kernel::judge(bytes) {
+        Ok(kernel) => kernel,
+        Err(_) => return NtkOutcome { answer: 15, runs: 0 },
+    };
+    let outcome = kernel.step(Call { kind, a, b, c });
+    bytes.copy_from_slice(&kernel.encode());
+    NtkOutcome { answer: outcome.answer, runs: outcome.runs.map_or(0, |t| t as u32 + 1) }
+}
