@@ -1,6 +1,7 @@
 // The bench's tapes, each played from the fresh table, and what `play` prints of them.
 ghost use mathlib.Core.Path.{_≡_};
 ghost use lib.ListN.{length};
+ghost use Rattle.table.specs.Image.{Image};
 use libc::STDOUT_FILENO;
 
 fn say(text: &[u8]) {
@@ -14,10 +15,11 @@ fn say_bad() {
 }
 
 // A tape that ends within a call, or has a kind that the list lacks, is `bad` there.
-fn play(tape: &[u8]) {
-    let mut image = [0u8; 1702];
+fn play_from(image: &mut [u8], tape: &[u8])
+    requires { ⌜ Image (now image) ⌝ }
+{
     let mut out = [0u8; 4096];
-    let part = player::play_part(&mut image, tape, &mut out);
+    let part = player::play_part(image, tape, &mut out);
     let read = part.read;
     let written = part.written;
     let ended = part.ended;
@@ -27,12 +29,17 @@ fn play(tape: &[u8]) {
     }
 }
 
+fn play(tape: &[u8]) {
+    let mut image = [0u8; 1702];
+    play_from(&mut image, tape);
+}
+
 fn reel(name: &[u8], tape: &[u8]) {
     say(name);
     play(tape);
 }
 
-// Those that are proved of the rules too. P5 starts at a counter that no tape of a sensible length reaches.
+// Those that are proved of the rules too.
 fn proved_cases() {
     reel(
         b"P1, inheritance\n",
@@ -94,6 +101,17 @@ fn run_only() {
     reel(b"an empty tape\n", b"");
 }
 
+// P5: a task is created, delays for 3 ticks, and three ticks come. No tape of a sensible length reaches the counter that it starts at.
+fn wrapping_mark() {
+    let mut image = [0u8; 1702];
+    table::cells::set_tick(&mut image, 4294967294);
+    say(b"P5, a mark behind the wrap\n");
+    play_from(
+        &mut image,
+        b"\x01\x00\x05\x00\x00\x07\x03\x00\x00\x00\x0b\x0b\x0b",
+    );
+}
+
 // From byte 7 on, 251 waits for mutex 0 that do not block: their other bytes are zero.
 fn write_waits(tape: &mut [u8])
     requires { ⌜ length (now tape) ≡ 1764 ⌝ }
@@ -137,6 +155,7 @@ fn every_kind() {
 
 fn main() {
     proved_cases();
+    wrapping_mark();
     nested();
     run_only();
     every_kind();
