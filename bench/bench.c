@@ -5,7 +5,7 @@
  * Variants:
  *     C         plain_step, a struct behind a pointer
  *     C+check   plain_check, then plain_step
- *     serve     ntk_serve: the port without its test of the image (only with BENCH_SERVE, below)
+ *     serve     ntk_serve: the port without its test of the image
  *     step      ntk_step: the port as the customer calls it
  *
  * The calls of each sequence are recorded first, with the plain kernel saying who runs; then all variants play them, answers, running
@@ -28,28 +28,9 @@
 #include "image.h"
 #include "plain.h"
 
-/* Is ntk_serve there to be linked? */
-#ifndef BENCH_SERVE
-#define BENCH_SERVE 1
-#endif
-
-/* What stands in for the port, where it is not the port. */
-#ifndef BENCH_PORT
-#define BENCH_PORT "libport.a"
-#endif
-
-#if BENCH_SERVE
-struct ntk_outcome ntk_serve(uint8_t kind, uint32_t a, uint32_t b, uint32_t c, uint8_t *image, size_t length);
-#endif
-
 enum variant { PLAIN, CHECKED, SERVE, STEP, VARIANTS };
 
 static const char *const variant_names[VARIANTS] = {"C", "C+check", "serve", "step"};
-
-static int is_timed(enum variant v)
-{
-    return v != SERVE || BENCH_SERVE;
-}
 
 enum { CALLS = 20000, CHUNK = 400, CHUNKS = CALLS / CHUNK, MOST_ROUNDS = 1001, COPIES = 8 };
 
@@ -401,11 +382,7 @@ static inline struct ntk_outcome checked_call(struct plain *k, const struct call
 
 static inline struct ntk_outcome serve_call(uint8_t *image, const struct call *c)
 {
-#if BENCH_SERVE
     return ntk_serve(c->kind, c->a, c->b, c->c, image, NTK_IMAGE_SIZE);
-#else
-    return ntk_step(c->kind, c->a, c->b, c->c, image, NTK_IMAGE_SIZE); /* not timed */
-#endif
 }
 
 static inline struct ntk_outcome step_call(uint8_t *image, const struct call *c)
@@ -802,8 +779,6 @@ static void time_sequences(unsigned rounds)
             for (turn = 0; turn < VARIANTS; turn++) {
                 v = (turn + round) % VARIANTS;
                 sums[v] = 0;
-                if (!is_timed((enum variant)v))
-                    continue;
                 make_fresh(&table);
                 for (chunk = 0; chunk < CHUNKS; chunk++) {
                     uint64_t from = now();
@@ -812,7 +787,7 @@ static void time_sequences(unsigned rounds)
                 }
             }
             for (v = 0; v < VARIANTS; v++)
-                if (is_timed((enum variant)v) && sums[v] != sums[PLAIN])
+                if (sums[v] != sums[PLAIN])
                     failed("the variants differ in a timed round");
         }
     }
@@ -897,8 +872,6 @@ static void time_kinds(void)
                 continue;
             for (v = 0; v < VARIANTS; v++) {
                 struct longest l = {0, &cases[i]};
-                if (!is_timed((enum variant)v))
-                    continue;
                 l.ns = time_case((enum variant)v, &cases[i], 15);
                 for (j = 0; j < BEST && l.one != NULL; j++)
                     if (best[v][j].one == NULL || l.ns > best[v][j].ns) {
@@ -931,17 +904,9 @@ static void print_row(const char *name, const double ns[VARIANTS])
     unsigned v;
 
     printf("%-18s", name);
-    for (v = 0; v < VARIANTS; v++) {
-        if (is_timed((enum variant)v))
-            printf("%10.1f", ns[v]);
-        else
-            printf("%10s", "-");
-    }
-    if (BENCH_SERVE)
-        printf("%10.2f", ns[SERVE] / ns[PLAIN]);
-    else
-        printf("%10s", "-");
-    printf("%15.2f\n", ns[STEP] / ns[CHECKED]);
+    for (v = 0; v < VARIANTS; v++)
+        printf("%10.1f", ns[v]);
+    printf("%10.2f%15.2f\n", ns[SERVE] / ns[PLAIN], ns[STEP] / ns[CHECKED]);
 }
 
 static void print_head(const char *what)
@@ -959,7 +924,7 @@ static void print_all(unsigned rounds)
     double all[VARIANTS] = {0};
     unsigned q, kind, v;
 
-    printf("port: %s; %d calls a sequence, %u rounds; the deepest chain that a wait joined:", BENCH_PORT, CALLS, rounds);
+    printf("%d calls a sequence, %u rounds; the deepest chain that a wait joined:", CALLS, rounds);
     for (q = 0; q < SEQUENCES; q++)
         printf(" %s %u%s", sequences[q]->name, sequences[q]->deepest, q + 1 < SEQUENCES ? "," : "\n");
     printf("all variants agree: answers, running tasks and tables, after each of %d calls and in %u cases\n", SEQUENCES * CALLS, case_count);
@@ -982,8 +947,6 @@ static void print_all(unsigned rounds)
     putchar('\n');
     for (v = 0; v < VARIANTS; v++) {
         unsigned slowest = 0;
-        if (!is_timed((enum variant)v))
-            continue;
         for (kind = 1; kind < KINDS; kind++)
             if (longest[kind][v].ns > longest[slowest][v].ns)
                 slowest = kind;

@@ -23,16 +23,6 @@ static void put32(uint8_t *at, uint32_t n)
     put16(at + 2, n >> 16);
 }
 
-static uint32_t get16(const uint8_t *at)
-{
-    return at[0] | (uint32_t)at[1] << 8;
-}
-
-static uint32_t get32(const uint8_t *at)
-{
-    return get16(at) | get16(at + 2) << 16;
-}
-
 void image_of(const struct plain *k, uint8_t image[NTK_IMAGE_SIZE])
 {
     unsigned i, q;
@@ -71,69 +61,4 @@ void image_of(const struct plain *k, uint8_t image[NTK_IMAGE_SIZE])
     put32(image + TICK_AT, k->tick);
     image[DEPTH_AT] = k->depth;
     image[RUNNING_AT] = k->running == PLAIN_NONE ? 0 : k->running + 1;
-}
-
-int image_read(struct plain *k, const uint8_t image[NTK_IMAGE_SIZE])
-{
-    uint32_t queued = 0;
-    unsigned i, q, slot;
-
-    plain_fresh(k);
-    memcpy(k->work, image, PLAIN_TASKS);
-    for (i = 0; i < PLAIN_TASKS; i++) {
-        struct plain_task *t = &k->task[i];
-        const uint8_t *at = image + TASKS_AT + 15 * i;
-        t->used = at[0];
-        t->base = at[1];
-        t->suspended = at[2];
-        t->quantum = (uint16_t)get16(at + 3);
-        t->left = (uint16_t)get16(at + 5);
-        t->state = at[7];
-        t->object = at[8];
-        if (at[9] > 1)
-            return 0;
-        k->marked |= (uint32_t)at[9] << i;
-        t->mark = get32(at + 10);
-        t->outcome = at[14];
-    }
-    for (i = 0; i < PLAIN_OBJECTS; i++) {
-        struct plain_mutex *m = &k->mutex[i];
-        const uint8_t *at = image + SEMAPHORES_AT + 5 * i;
-        k->semaphore[i].used = at[0];
-        k->semaphore[i].count = get32(at + 1);
-        at = image + MUTEXES_AT + 3 * i;
-        m->used = at[0];
-        m->holder = at[0] ? PLAIN_NONE : 0;
-        m->nesting = at[2];
-        if (at[1] > PLAIN_TASKS || (at[1] != 0 && !at[0]))
-            return 0;
-        if (at[1] != 0) {
-            m->holder = at[1] - 1;
-            k->task[m->holder].held |= (uint16_t)(1u << i);
-        }
-    }
-    for (q = 0; q <= 2 * PLAIN_OBJECTS; q++) {
-        const uint8_t *at = image + QUEUES_AT + 32 * q;
-        unsigned head = head_of(q), before = head;
-        for (slot = 0; slot < PLAIN_TASKS && at[slot] != 0; slot++) {
-            i = at[slot] - 1u;
-            if (i >= PLAIN_TASKS || queued >> i & 1)
-                return 0;
-            queued |= UINT32_C(1) << i;
-            k->next[before] = (uint8_t)i;
-            k->prev[i] = (uint8_t)before;
-            before = i;
-        }
-        k->next[before] = (uint8_t)head;
-        k->prev[head] = (uint8_t)before;
-        for (; slot < PLAIN_TASKS; slot++)
-            if (at[slot] != 0)
-                return 0;
-    }
-    k->tick = get32(image + TICK_AT);
-    k->depth = image[DEPTH_AT];
-    if (image[RUNNING_AT] > PLAIN_TASKS)
-        return 0;
-    k->running = image[RUNNING_AT] == 0 ? PLAIN_NONE : image[RUNNING_AT] - 1;
-    return 1;
 }

@@ -1,7 +1,7 @@
 -- Where a task stands, and what the front slot of a queue says of the tasks. Assumes nothing.
 use mathlib.Core.Path.{_≡_, refl, sym, ap, subst, _∙_}
 use mathlib.Core.Logic.{⊎-elim, _≢_}
-use mathlib.Core.Bool.{Bool, true, false}
+use mathlib.Core.Bool.{Bool, true, false, cond}
 use mathlib.Core.List.{List}
 use Prim.Native.Nat.{ℕ, _-_, _≤_, _<_}
 use native.Mathlib.Decide.{ℕ-discrete}
@@ -56,15 +56,18 @@ module _ (k : Task) where
   pub able-there : placeOf k ≡ ableQueue → isAble k ≡ true
   able-there e = able-place k ∙ eq-eqb _ _ e
 
+  -- Whoever is not plain stands where the state says.
+  state-place : k .state ≢ plain → placeOf k ≡ cond (eqb (k .state) waitsSemaphore) (semaphoreQueue (k .object)) (cond (eqb (k .state) waitsMutex) (mutexQueue (k .object)) queueCount)
+  unfolding placeOf
+  state-place n = rw (unable (isAble k) refl)
+    where
+      unable : (b : Bool) → isAble k ≡ b → isAble k ≡ false
+      unable true a = absurd (n (able k .holds a .state))
+      unable false a = a
+
   -- Who waits for a semaphore stands in its queue, and who stands there waits for it.
   pub semaphore-place : k .state ≡ waitsSemaphore → placeOf k ≡ semaphoreQueue (k .object)
-  semaphore-place e = go (place k)
-    where
-      go : Place k → placeOf k ≡ semaphoreQueue (k .object)
-      go (ready a p) = absurd (omega (arith, able k .holds a .state))
-      go (forSemaphore a p) = p
-      go (forMutex a p) = absurd (omega arith)
-      go (nowhere a b c p) = absurd (b e)
+  semaphore-place e = state-place (omega arith) ∙ rw e
 
   pub semaphore-there : (s : ℕ) → s < semaphoreCount → placeOf k ≡ semaphoreQueue s → (k .state ≡ waitsSemaphore) × (k .object ≡ s)
   semaphore-there s l e = go (place k)
@@ -77,13 +80,7 @@ module _ (k : Task) where
 
   -- The same of a mutex, where no semaphore has a number past the semaphores.
   pub mutex-place : k .state ≡ waitsMutex → placeOf k ≡ mutexQueue (k .object)
-  mutex-place e = go (place k)
-    where
-      go : Place k → placeOf k ≡ mutexQueue (k .object)
-      go (ready a p) = absurd (omega (arith, able k .holds a .state))
-      go (forSemaphore a p) = absurd (omega arith)
-      go (forMutex a p) = p
-      go (nowhere a b c p) = absurd (c e)
+  mutex-place e = state-place (omega arith) ∙ rw e
 
   pub mutex-there : (m : ℕ) → m < mutexCount → (k .state ≡ waitsSemaphore → k .object < semaphoreCount) → placeOf k ≡ mutexQueue m
       → (k .state ≡ waitsMutex) × (k .object ≡ m)

@@ -64,7 +64,7 @@ in-range t =
 
 -- ---- free numbers
 
-no-task : (k : Task) → Decides (isNoTask k) (k ≡ noTask)
+pub no-task : (k : Task) → Decides (isNoTask k) (k ≡ noTask)
 unfolding isNoTask
 no-task k =
     first (ap λ (x : Task). x .used) equals λ used.
@@ -106,7 +106,7 @@ free-zero t =
 
 -- ---- queues
 
-once-most : (b : Bool) → once b ≤ 1
+pub once-most : (b : Bool) → once b ≤ 1
 once-most true = omega arith
 once-most false = omega arith
 

@@ -16,6 +16,7 @@ use Rattle.queue.specs.Counts.{one-same, one-other}
 use Rattle.queue.specs.Keeps.{all-map}
 use Rattle.rules.specs.Sizes.{taskCount}
 use Rattle.rules.specs.Sound.{once}
+use Rattle.rules.specs.Tested.{once-most}
 use Rattle.rules.specs.Decides.{Decides, equals, at-most, first, last}
 use Rattle.sound.specs.Tests.{by-cases, never, and-first, and-second}
 
@@ -67,10 +68,6 @@ pub record Line (keys : List ℕ) (q : ℕ) (spots l : List ℕ) : Type 0 where
 record Behind (keys : List ℕ) (q key : ℕ) (spots l : List ℕ) : Type 0 where
   line : Line keys q spots l
   above : All (λ v. (v ≡ 0) ⊎ (key ≤ keyOf keys v)) l
-
-pub once-most : (b : Bool) → once b ≤ 1
-once-most true = omega arith
-once-most false = omega arith
 
 -- ---- free slots
 

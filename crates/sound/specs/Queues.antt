@@ -15,9 +15,10 @@ use Rattle.rules.specs.Sizes.{taskCount}
 use Rattle.rules.specs.Table.{Table, taskOf, queueOf, queueCount, written, works, placeOf}
 use Rattle.rules.specs.Sound.{Each, each, once}
 use Rattle.rules.specs.Afresh.{lt-or-le}
+use Rattle.rules.specs.Tested.{once-most}
 use Rattle.rules.specs.Decides.{Decides, equals, at-most, each-one}
 use Rattle.sound.specs.Tasks.{spotOf, Spotted}
-use Rattle.sound.specs.Lines.{struckOut, struck, lined, LinePassed, Line, line-says, struck-at, once-most}
+use Rattle.sound.specs.Lines.{struckOut, struck, lined, LinePassed, Line, line-says, struck-at}
 
 -- "The able queue holds each able task once and nothing else; each object's queue holds each of its waiters once and nothing else."
 -- "Queues are ordered."

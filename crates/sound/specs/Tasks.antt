@@ -10,6 +10,7 @@ use Rattle.rules.specs.declared.Task.{Task}
 use Rattle.rules.specs.Table.{Table, taskOf, semaphoreOf, mutexOf, queueCount, placeOf, noTask}
 use Rattle.rules.specs.Move.{baseOf}
 use Rattle.rules.specs.Sound.{Each, each, TaskInRange, isNoTask, objectsIn, marksIn}
+use Rattle.rules.specs.Tested.{no-task}
 use Rattle.rules.specs.Decides.{Decides, equals, at-most, fails, first, last, both, each-one}
 use Rattle.sound.specs.Tests.{unless, by-cases, always}
 use Rattle.sound.specs.Shows.{Shows}
@@ -97,23 +98,7 @@ served t k =
     (λ e. last (λ r. r .mutex e) equals λ u. record { semaphore = λ q. absurd (n q); mutex = λ q. u })
     (λ m. always (record { semaphore = λ q. absurd (n q); mutex = λ q. absurd (m q) })))
 
--- A record that is all zero is that of a free number.
-blank : (k : Task) → Decides (isNoTask k) (k ≡ noTask)
-unfolding isNoTask
-blank k =
-    first (ap λ (x : Task). x .used) equals λ used.
-    first (ap λ (x : Task). x .base) equals λ base.
-    first (ap λ (x : Task). x .work) equals λ work.
-    first (ap λ (x : Task). x .suspend) equals λ suspend.
-    first (ap λ (x : Task). x .quantum) equals λ quantum.
-    first (ap λ (x : Task). x .left) equals λ left.
-    first (ap λ (x : Task). x .state) equals λ state.
-    first (ap λ (x : Task). x .object) equals λ object.
-    first (ap λ (x : Task). x .marked) equals λ marked.
-    first (ap λ (x : Task). x .due) equals λ due.
-    last (ap λ (x : Task). x .outcome) equals λ outcome i.
-    record { used = used i; base = base i; work = work i; suspend = suspend i; quantum = quantum i; left = left i; state = state i; object = object i; marked = marked i; due = due i; outcome = outcome i }
-
+-- The record of a free number is right.
 blank-right : (t : Table) → TaskRight t noTask
 unfolding objectsIn marksIn
 blank-right t =
@@ -155,7 +140,7 @@ pub task-right : (t : Table) (k : Task) → Decides (isTaskRight t k) (TaskRight
 unfolding isTaskRight
 task-right t k =
     by-cases equals
-    (λ e. last (λ r. r .free e) (blank k) λ z. subst (TaskRight t) (sym z) (blank-right t))
+    (λ e. last (λ r. r .free e) (no-task k) λ z. subst (TaskRight t) (sym z) (blank-right t))
     (λ n. first (λ r. (record { inRange = r .inRange; used = used n (r .inRange); left = r .left }, r .timely)) (both (fit k) (timely (t .tick) k)) λ (f, m).
     last (λ r. r .served) (served t k) λ s. record { inRange = f .inRange; free = λ e. absurd (n e); left = f .left; timely = m; served = s })
   where
