@@ -1,83 +1,29 @@
--- Of each call: its answer is below 15, and what holds where the answer changes anything. Assumes nothing.
-use mathlib.Core.Path.{_≡_, refl}
-use mathlib.Core.Logic.{_⊎_, inl, inr, _≢_}
-use mathlib.Core.Bool.{Bool, true, false, cond, not, _&&_}
+-- Of each call, whatever it is answered: the condition of that number holds (`Numbers`), it is below 15, and where it changes anything the
+-- call is accepted. Assumes nothing.
+use mathlib.Core.Path.{_≡_, refl, sym}
+use mathlib.Core.Logic.{_⊎_, inl, inr, ⊎-elim, _≢_}
+use mathlib.Core.Bool.{Bool, true, false, cond, not, _&&_, _||_, false≢true}
 use Prim.Native.Nat.{ℕ, _≤_, _<_}
 use native.Mathlib.Omega.{arith}
 use lib.Dec.{ltb, leb}
-use Rattle.rules.specs.Sizes.{taskCount, semaphoreCount, mutexCount, lastPriority, mostNested, mostQuantum, mostCount, delayed, done, beyondRange, notInUse, inUse, badValue, byInterrupt, noneRunning, whileLocked, nothingToTake, notItsHolder, nestedTooDeep, countFull, nothingToUndo, stillNeeded, notSound}
+use Rattle.rules.specs.Sizes.{taskCount, semaphoreCount, mutexCount, lastPriority, mostNested, mostQuantum, mostCount, delayed, done, beyondRange, inUse, notSound}
 use Rattle.rules.specs.Table.{Table, taskOf, semaphoreOf, mutexOf, semaphoreQueue, mutexQueue, firstIn, written, isUsed}
 use Rattle.rules.specs.Decides.{Decides, equals, at-most, itself, fails, either, both}
-use Rattle.rules.specs.Move.{hasPeer}
-use Rattle.rules.specs.Task.{createAnswer, holdsBelow, deleteAnswer, priorityAnswer, suspendAnswer, resumeAnswer}
-use Rattle.rules.specs.Time.{callerOf, byCaller, yieldAnswer, delayAnswer, delayResumeAnswer}
+use Rattle.rules.specs.Move.{isRunning, hasPeer}
+use Rattle.rules.specs.Task.{isLocked, createAnswer, holdsBelow, deleteAnswer, priorityAnswer, suspendAnswer, resumeAnswer}
+use Rattle.rules.specs.Time.{callerOf, yieldAnswer, delayAnswer, delayResumeAnswer}
 use Rattle.rules.specs.Lock.{lockAnswer, unlockAnswer}
-use Rattle.rules.specs.Object.{onObject, yesNo, waitAnswer, abortAnswer}
-use Rattle.rules.specs.Object
+use Rattle.rules.specs.Object.{onObject, waitAnswer}
 use Rattle.rules.specs.Semaphore.{semaphoreCreateAnswer, semaphoreDeleteAnswer, semaphoreWaitAnswer, semaphorePostAnswer, semaphoreAbortAnswer}
 use Rattle.rules.specs.Mutex.{mutexCreateAnswer, mutexDeleteAnswer, mutexWaitAnswer, mutexPostAnswer, mutexAbortAnswer}
 use Rattle.rules.specs.Step.{changes, answerTo, forInterrupts, answer}
 use Rattle.rules.specs.declared.Call.{Call}
 use Rattle.rules.specs.declared.Call.the-variants.{TaskCreate, TaskDelete, ChangePriority, Suspend, Resume, Yield, Delay, DelayResume, Lock, Unlock, Tick, SemaphoreCreate, SemaphoreDelete, SemaphoreWait, SemaphorePost, SemaphoreAbort, MutexCreate, MutexDelete, MutexWait, MutexPost, MutexAbort}
-use Rattle.laws.specs.Found.{pick}
+use Rattle.laws.specs.Found.{pick, peer, holds-some}
+use Rattle.laws.specs.Numbers.{Thing, countOf, numberOf, usedIn, Creates, aTask, aSemaphore, aMutex, On, taskDelete, changePriority, suspend, resume, delayResume, semaphoreDelete, semaphoreWait, semaphorePost, semaphoreAbort, mutexDelete, mutexWait, mutexPost, mutexAbort, FindsNothing, counted, held, Holds, Gets}
+use Rattle.laws.specs.Numbers.{interrupts, yieldByNone, delayByNone, semaphoreWaitByNone, mutexWaitByNone, mutexPostByNone, beyond, unused, used, createBase, changeBase, semaphoreForce, mutexForce, semaphoreBlock, mutexBlock, noTicks, createQuantum, nonBlocking, lockedYield, lockedDelay, lockedWait, lockedSuspend, lockedDelete, foreign, nestedMutex, nestedLock, nestedSuspend, full, unlocked, notSuspended, notDelayed, noSemaphoreWaiter, noMutexWaiter, noPeer, semaphoreWaiters, mutexWaiters, holder, waits, accepted}
 
--- ---- answers
-
--- The answer is below 15, and where it changes anything P holds.
-pub record Answers (answer : ℕ) (P : Type 0) : Type 0 where
-  pub small : answer < notSound
-  pub holds : changes answer ≡ true → P
-
--- A refusal changes nothing.
-refused : {P : Type 0} (n : ℕ) → ltb n notSound && not (changes n) ≡ true → Answers n P
-refused n e = let (l, d) = both at-most (fails itself) .holds e in record { small = l; holds = λ h. absurd (d h) }
-
-accepted : {P : Type 0} → P → Answers done P
-accepted p = record { small = omega arith; holds = λ e. p }
-
--- One answer or another, as the test decides.
-branch : {b : Bool} {x y : ℕ} {B P : Type 0} → Decides b B → (B → Answers x P) → ((B → ⊥) → Answers y P) → Answers (cond b x y) P
-branch {P = P} d f g = pick (λ n. Answers n P) d f g
-
--- Past a refusal its test has failed.
-past : {b : Bool} {answer : ℕ} {B P : Type 0} → Decides b B → (n : ℕ) → ltb n notSound && not (changes n) ≡ true → ((B → ⊥) → Answers answer P) → Answers (cond b n answer) P
-past d n e on = branch d (λ x. refused n e) on
-
-unless : {b : Bool} {answer : ℕ} {B P : Type 0} → Decides b B → (n : ℕ) → ltb n notSound && not (changes n) ≡ true → (B → Answers answer P) → Answers (cond (not b) n answer) P
-unless {b} {answer} {B} {P} d n e on = go b d
-  where
-    go : (b : Bool) → Decides b B → Answers (cond (not b) n answer) P
-    go true d = on (d .holds refl)
-    go false d = refused n e
-
--- ---- what calls share
-
-module _ {answer : ℕ} {P : Type 0} where
-  -- A task or an object that is in use.
-  on-object : (count o used : ℕ) → (o < count → used ≡ 1 → Answers answer P) → Answers (onObject count o used answer) P
-  on-object count o used on = past at-most beyondRange refl λ (r : count ≤ o → ⊥). unless equals notInUse refl λ u. on (omega arith) u
-
-  -- One that is not.
-  no-object : (count o used : ℕ) → (o < count → used ≢ 1 → Answers answer P) → Answers (cond (leb count o) beyondRange (cond (isUsed used) inUse answer)) P
-  no-object count o used on = past at-most beyondRange refl λ (r : count ≤ o → ⊥). past equals inUse refl λ u. on (omega arith) u
-
-  by-caller : (t : Table) → (t .running ≢ 0 → Answers answer P) → Answers (byCaller t answer) P
-  by-caller t on = past equals noneRunning refl on
-
-  yes-no : (byte : ℕ) → Answers answer P → Answers (yesNo byte answer) P
-  yes-no byte on = past (at-most {x = 2} {y = byte}) badValue refl λ l. on
-
--- A wait that finds nothing to take.
-waits : {P : Type 0} (block : ℕ) (t : Table) → (t .depth ≡ 0 → P) → Answers (waitAnswer block t) P
-waits block t p = past (equals {x = block} {y = 0}) nothingToTake refl λ b. unless equals whileLocked refl λ z. record { small = omega arith; holds = λ e. p z }
-
-aborts : {P : Type 0} (q : ℕ) (t : Table) → (firstIn q t ≢ 0 → P) → Answers (abortAnswer q t) P
-aborts q t p = unless (fails equals) nothingToUndo refl λ d. accepted (p d)
-
-deletes : {P : Type 0} (force q : ℕ) (t : Table) → P → Answers (Object.deleteAnswer force q t) P
-deletes force q t p = yes-no force (past (both (equals {x = force} {y = 0}) (fails (equals {x = firstIn q t} {y = 0}))) stillNeeded refl λ n. accepted p)
-
--- ---- each call
+-- ---- what is accepted
 
 -- What holds of a call that is not refused.
 abbrev pub Accepted : Call → Table → Type 0
@@ -106,56 +52,148 @@ Accepted (MutexWait m block limit) t =
 Accepted (MutexPost m) t = (t .running ≢ 0) × (m < mutexCount) × (mutexOf t m .used ≡ 1) × (mutexOf t m .holder ≡ written (callerOf t))
 Accepted (MutexAbort m) t = (m < mutexCount) × (firstIn (mutexQueue m) t ≢ 0)
 
--- Each call made by a task: its answer is below 15, and it is accepted where that changes anything.
-pub answers : (c : Call) (t : Table) → Answers (answerTo c t) (Accepted c t)
-unfolding answerTo createAnswer deleteAnswer priorityAnswer suspendAnswer resumeAnswer yieldAnswer delayAnswer delayResumeAnswer lockAnswer unlockAnswer semaphoreCreateAnswer semaphoreDeleteAnswer semaphoreWaitAnswer semaphorePostAnswer semaphoreAbortAnswer mutexCreateAnswer mutexDeleteAnswer mutexWaitAnswer mutexPostAnswer mutexAbortAnswer
-answers (TaskCreate i base quantum) t =
-    no-object taskCount i (taskOf t i .used) λ l u.
-    past (either at-most at-most) badValue refl λ (v : (lastPriority < base) ⊎ (mostQuantum < quantum) → ⊥).
-    let b : lastPriority < base → ⊥ = λ x. v (inl x) in
-    let q : mostQuantum < quantum → ⊥ = λ x. v (inr x) in
-    accepted (l, u, omega arith, omega arith)
-answers (TaskDelete i) t =
-    on-object taskCount i (taskOf t i .used) λ l u.
-    past (both (fails equals) equals) whileLocked refl λ other.
-    past itself stillNeeded refl λ none.
-    accepted (l, u, (λ d e. other (d, e)), none)
-answers (ChangePriority i base) t = on-object taskCount i (taskOf t i .used) λ l u. past at-most badValue refl λ (b : lastPriority < base → ⊥). accepted (l, u, omega arith)
-answers (Suspend i) t =
-    on-object taskCount i (taskOf t i .used) λ l u.
-    past (both (fails equals) equals) whileLocked refl λ other.
-    past at-most nestedTooDeep refl λ (n : mostNested ≤ taskOf t i .suspend → ⊥).
-    accepted (l, u, (λ d e. other (d, e)), omega arith)
-answers (Resume i) t = on-object taskCount i (taskOf t i .used) λ l u. past equals nothingToUndo refl λ n. accepted (l, u, n)
-answers Yield t = by-caller t λ c. unless (equals {x = t .depth} {y = 0}) whileLocked refl λ z. unless (itself {b = hasPeer (callerOf t) t}) nothingToUndo refl λ p. accepted (c, z, p)
-answers (Delay n) t = by-caller t λ c. past equals badValue refl λ d. unless equals whileLocked refl λ z. accepted (c, d, z)
-answers (DelayResume i) t = on-object taskCount i (taskOf t i .used) λ l u. unless equals nothingToUndo refl λ e. accepted (l, u, e)
-answers Lock t = past at-most nestedTooDeep refl λ (n : mostNested ≤ t .depth → ⊥). accepted (omega arith)
-answers Unlock t = past (equals {x = t .depth} {y = 0}) nothingToUndo refl λ d. accepted tt
-answers Tick t = accepted tt
-answers (SemaphoreCreate s n) t = no-object semaphoreCount s (semaphoreOf t s .used) λ l u. accepted (l, u)
-answers (SemaphoreDelete s force) t = on-object semaphoreCount s (semaphoreOf t s .used) λ l u. deletes force (semaphoreQueue s) t l
-answers (SemaphoreWait s block limit) t =
-    by-caller t λ c.
-    on-object semaphoreCount s (semaphoreOf t s .used) λ l u.
-    yes-no block
-    (branch at-most (λ (n : 1 ≤ semaphoreOf t s .count). accepted (c, l, u, λ z. absurd (omega arith))) λ n.
-    waits block t λ z. (c, l, u, λ e. z))
-answers (SemaphorePost s) t = on-object semaphoreCount s (semaphoreOf t s .used) λ l u. past at-most countFull refl λ (n : mostCount ≤ semaphoreOf t s .count → ⊥). accepted (l, omega arith)
-answers (SemaphoreAbort s) t = on-object semaphoreCount s (semaphoreOf t s .used) λ l u. aborts (semaphoreQueue s) t λ d. (l, d)
-answers (MutexCreate m) t = no-object mutexCount m (mutexOf t m .used) λ l u. accepted (l, u)
-answers (MutexDelete m force) t = on-object mutexCount m (mutexOf t m .used) λ l u. deletes force (mutexQueue m) t l
-answers (MutexWait m block limit) t =
-    by-caller t λ c.
-    on-object mutexCount m (mutexOf t m .used) λ l u.
-    yes-no block
-    (branch (fails (fails equals)) (λ (free : (mutexOf t m .holder ≡ 0 → ⊥) → ⊥). accepted (c, l, u, (λ e. absurd (free (λ z. omega arith))), λ d. absurd (free d))) λ held.
-    branch equals (λ own. past at-most nestedTooDeep refl λ (n : mostNested ≤ mutexOf t m .nesting → ⊥). accepted (c, l, u, (λ e. omega arith), λ d e. absurd (e own))) λ other.
-    waits block t λ z. (c, l, u, (λ e. absurd (other e)), λ d e. z))
-answers (MutexPost m) t = by-caller t λ c. on-object mutexCount m (mutexOf t m .used) λ l u. unless equals notItsHolder refl λ own. accepted (c, l, u, own)
-answers (MutexAbort m) t = on-object mutexCount m (mutexOf t m .used) λ l u. aborts (mutexQueue m) t λ d. (l, d)
+-- ---- tests
 
--- A call that changes anything was accepted, whoever made it.
-pub accepts : (c : Call) (interrupt : Bool) (t : Table) → Answers (answer c interrupt t) (Accepted c t)
+-- The test for a mutex that task i holds.
+pub holding : (i : ℕ) (t : Table) → Decides (holdsBelow mutexCount i t) (Holds i t)
+holding i t =
+    let d = holds-some mutexCount i t in
+    record { holds = λ e. let (m, l, h) = d .holds e in record { mutex = m; range = l; holder = h }; passes = λ h. d .passes (h .mutex, h .range, h .holder) }
+
+is-false : (b : Bool) → Decides (not b) (b ≡ false)
+is-false true = record { holds = λ e. absurd (false≢true e); passes = λ e. sym e }
+is-false false = record { holds = λ e. refl; passes = λ e. refl }
+
+-- An interrupt's call that is not for interrupts.
+pub interrupted : (interrupt : Bool) (c : Call) → Decides (interrupt && not (forInterrupts c)) ((interrupt ≡ true) × (forInterrupts c ≡ false))
+interrupted interrupt c = both itself (is-false (forInterrupts c))
+
+-- Not twice over.
+pub twice : {b : Bool} {B : Type 0} → Decides b B → Decides (not (not b)) B
+twice {b} {B} d = go b d
+  where
+    go : (b : Bool) → Decides b B → Decides (not (not b)) B
+    go true d = d
+    go false d = d
+
+-- A base priority or a quantum that is too great.
+pub great : (base quantum : ℕ) → Decides (ltb lastPriority base || ltb mostQuantum quantum) ((lastPriority < base) ⊎ (mostQuantum < quantum))
+great base quantum = either at-most at-most
+
+-- The scheduler is locked.
+pub locked : (t : Table) → Decides (isLocked t) (t .depth ≢ 0)
+locked t = fails equals
+
+-- Task i runs, and the scheduler is locked.
+pub kept-on : (i : ℕ) (t : Table) → Decides (isLocked t && isRunning i t) ((t .depth ≢ 0) × (t .running ≡ written i))
+kept-on i t = both (locked t) equals
+
+-- ---- the answer of a call
+
+-- A call is answered n: the condition of n holds, n is below 15, and where n changes anything the call is accepted.
+pub record Answers (interrupt : Bool) (t : Table) (c : Call) (n : ℕ) : Type 0 where
+  pub why : Gets interrupt t n c
+  pub small : n < notSound
+  pub holds : changes n ≡ true → Accepted c t
+
+module _ {interrupt : Bool} {t : Table} {c : Call} where
+  -- A refusal changes nothing.
+  refused : {n : ℕ} → ltb n notSound && not (changes n) ≡ true → Gets interrupt t n c → Answers interrupt t c n
+  refused e g = let (l, d) = both at-most (fails itself) .holds e in record { why = g; small = l; holds = λ h. absurd (d h) }
+
+  accept : Accepted c t → Answers interrupt t c done
+  accept p = record { why = accepted; small = omega arith; holds = λ e. p }
+
+  -- One answer or another, as the test decides.
+  branch : {b : Bool} {m n : ℕ} {B : Type 0} → Decides b B → (B → Answers interrupt t c m) → ((B → ⊥) → Answers interrupt t c n) → Answers interrupt t c (cond b m n)
+  branch = pick (Answers interrupt t c)
+
+  -- Past a refusal its test has failed.
+  past : {b : Bool} {m n : ℕ} {B : Type 0} → Decides b B → ltb m notSound && not (changes m) ≡ true → (B → Gets interrupt t m c) → ((B → ⊥) → Answers interrupt t c n)
+      → Answers interrupt t c (cond b m n)
+  past d e row on = branch d (λ h. refused e (row h)) on
+
+  unless : {b : Bool} {m n : ℕ} {B : Type 0} → Decides b B → ltb m notSound && not (changes m) ≡ true → ((B → ⊥) → Gets interrupt t m c) → (B → Answers interrupt t c n)
+      → Answers interrupt t c (cond (not b) m n)
+  unless {b} {m} {n} {B} d e row on = go b d
+    where
+      go : (b : Bool) → Decides b B → Answers interrupt t c (cond (not b) m n)
+      go true d = on (d .holds refl)
+      go false d = refused e (row (λ h. false≢true (d .passes h)))
+
+  -- A thing that is to be in use, or that is to be created.
+  on-it : {x : Thing} {n : ℕ} → On c x → (numberOf x < countOf x → usedIn t x ≡ 1 → Answers interrupt t c n) → Answers interrupt t c (onObject (countOf x) (numberOf x) (usedIn t x) n)
+  on-it {x} o on = past at-most refl (beyond (inl o)) λ (r : countOf x ≤ numberOf x → ⊥). unless equals refl (unused o) λ u. on (omega arith) u
+
+  new-one : {x : Thing} {n : ℕ} → Creates c x → (numberOf x < countOf x → usedIn t x ≢ 1 → Answers interrupt t c n)
+      → Answers interrupt t c (cond (leb (countOf x) (numberOf x)) beyondRange (cond (isUsed (usedIn t x)) inUse n))
+  new-one {x} o on = past at-most refl (beyond (inr o)) λ (r : countOf x ≤ numberOf x → ⊥). past equals refl (used o) λ u. on (omega arith) u
+
+  -- A wait that finds nothing to take.
+  finds-nothing : {block : ℕ} → FindsNothing t block c → (t .depth ≡ 0 → Accepted c t) → Answers interrupt t c (waitAnswer block t)
+  finds-nothing f p = past equals refl (nonBlocking f) λ b. unless equals refl (λ d. lockedWait d f) λ z. record { why = waits f; small = omega arith; holds = λ e. p z }
+
+module _ (interrupt : Bool) (t : Table) where
+  -- Each call made by a task.
+  pub answers : (c : Call) → Answers interrupt t c (answerTo c t)
+  unfolding countOf numberOf usedIn answerTo createAnswer deleteAnswer priorityAnswer suspendAnswer resumeAnswer yieldAnswer delayAnswer delayResumeAnswer lockAnswer unlockAnswer semaphoreCreateAnswer semaphoreDeleteAnswer semaphoreWaitAnswer semaphorePostAnswer semaphoreAbortAnswer mutexCreateAnswer mutexDeleteAnswer mutexWaitAnswer mutexPostAnswer mutexAbortAnswer
+  answers (TaskCreate i base quantum) =
+      new-one (aTask {i = i}) λ l u.
+      past (great base quantum) refl (⊎-elim createBase createQuantum) λ v.
+      let b : lastPriority < base → ⊥ = λ x. v (inl x) in
+      let q : mostQuantum < quantum → ⊥ = λ x. v (inr x) in
+      accept (l, u, omega arith, omega arith)
+  answers (TaskDelete i) =
+      on-it (taskDelete {i = i}) λ l u.
+      past (kept-on i t) refl (λ h. lockedDelete (h .0) (h .1)) λ other.
+      past (holding i t) refl holder λ none.
+      accept (l, u, (λ d e. other (d, e)), λ e. none (holding i t .holds e))
+  answers (ChangePriority i base) = on-it (changePriority {i = i}) λ l u. past at-most refl changeBase λ (b : lastPriority < base → ⊥). accept (l, u, omega arith)
+  answers (Suspend i) =
+      on-it (suspend {i = i}) λ l u.
+      past (kept-on i t) refl (λ h. lockedSuspend (h .0) (h .1)) λ other.
+      past at-most refl nestedSuspend λ (n : mostNested ≤ taskOf t i .suspend → ⊥).
+      accept (l, u, (λ d e. other (d, e)), omega arith)
+  answers (Resume i) = on-it (resume {i = i}) λ l u. past equals refl notSuspended λ n. accept (l, u, n)
+  answers Yield =
+      past equals refl yieldByNone λ c.
+      unless equals refl lockedYield λ z.
+      unless (peer (callerOf t) t) refl noPeer λ p.
+      accept (c, z, peer (callerOf t) t .passes p)
+  answers (Delay n) = past equals refl delayByNone λ c. past equals refl noTicks λ d. unless equals refl lockedDelay λ z. accept (c, d, z)
+  answers (DelayResume i) = on-it (delayResume {i = i}) λ l u. unless equals refl notDelayed λ e. accept (l, u, e)
+  answers Lock = past at-most refl nestedLock λ (n : mostNested ≤ t .depth → ⊥). accept (omega arith)
+  answers Unlock = past equals refl unlocked λ d. accept tt
+  answers Tick = accept tt
+  answers (SemaphoreCreate s n) = new-one (aSemaphore {s = s}) λ l u. accept (l, u)
+  answers (SemaphoreDelete s force) =
+      on-it (semaphoreDelete {s = s}) λ l u.
+      past at-most refl semaphoreForce λ n.
+      past (both equals (fails equals)) refl (λ h. semaphoreWaiters (h .0) (h .1)) λ n. accept l
+  answers (SemaphoreWait s block limit) =
+      past equals refl semaphoreWaitByNone λ c.
+      on-it (semaphoreWait {s = s}) λ l u.
+      past at-most refl semaphoreBlock λ b.
+      branch at-most (λ (n : 1 ≤ semaphoreOf t s .count). accept (c, l, u, λ z. absurd (omega arith))) λ (n : 1 ≤ semaphoreOf t s .count → ⊥).
+      finds-nothing (counted (omega arith)) λ z. (c, l, u, λ e. z)
+  answers (SemaphorePost s) = on-it (semaphorePost {s = s}) λ l u. past at-most refl full λ (n : mostCount ≤ semaphoreOf t s .count → ⊥). accept (l, omega arith)
+  answers (SemaphoreAbort s) = on-it (semaphoreAbort {s = s}) λ l u. past (twice equals) refl noSemaphoreWaiter λ d. accept (l, d)
+  answers (MutexCreate m) = new-one (aMutex {m = m}) λ l u. accept (l, u)
+  answers (MutexDelete m force) =
+      on-it (mutexDelete {m = m}) λ l u.
+      past at-most refl mutexForce λ n.
+      past (both equals (fails equals)) refl (λ h. mutexWaiters (h .0) (h .1)) λ n. accept l
+  answers (MutexWait m block limit) =
+      past equals refl mutexWaitByNone λ c.
+      on-it (mutexWait {m = m}) λ l u.
+      past at-most refl mutexBlock λ b.
+      branch (twice equals) (λ (free : mutexOf t m .holder ≡ 0). accept (c, l, u, (λ e. absurd (omega arith)), λ d. absurd (d free))) λ d.
+      branch equals (λ own. past at-most refl (nestedMutex own) λ (n : mostNested ≤ mutexOf t m .nesting → ⊥). accept (c, l, u, (λ e. omega arith), λ d e. absurd (e own))) λ other.
+      finds-nothing (held d other) λ z. (c, l, u, (λ e. absurd (other e)), λ d e. z)
+  answers (MutexPost m) = past equals refl mutexPostByNone λ c. on-it (mutexPost {m = m}) λ l u. unless equals refl foreign λ own. accept (c, l, u, own)
+  answers (MutexAbort m) = on-it (mutexAbort {m = m}) λ l u. past (twice equals) refl noMutexWaiter λ d. accept (l, d)
+
+-- Each call, whoever made it.
+pub accepts : (c : Call) (interrupt : Bool) (t : Table) → Answers interrupt t c (answer c interrupt t)
 unfolding answer
-accepts c interrupt t = past (itself {b = interrupt && not (forInterrupts c)}) byInterrupt refl λ n. answers c t
+accepts c interrupt t = past (interrupted interrupt c) refl (λ h. interrupts (h .0) (h .1)) λ n. answers interrupt t c

@@ -22,6 +22,7 @@ pub mod Accepted
 pub mod Calls
 pub mod Sounds
 pub mod Always
+pub mod Tape
 pub mod Ahead
 pub mod Eased
 pub mod Moved
@@ -30,7 +31,6 @@ pub mod Turn
 pub mod Ordering
 pub mod Demand
 pub mod Numbers
-pub mod Reasons
 pub mod Numbering
 pub mod Counted
 pub mod Impostors

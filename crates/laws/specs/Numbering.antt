@@ -23,11 +23,10 @@ use Rattle.rules.specs.Mutex.{onMutex, mutexCreateAnswer, mutexDeleteAnswer, mu
 use Rattle.rules.specs.Sound.{Each, each, isSound}
 use Rattle.rules.specs.Step.{answerTo, forInterrupts, answer, serve, step}
 use Rattle.rules.specs.declared.Call.{Call}
-use Rattle.laws.specs.Accepted.{answers}
+use Rattle.laws.specs.Accepted.{holding, interrupted, twice, great, locked, kept-on, answers, accepts}
 use Rattle.laws.specs.Found.{pick, peer}
 use Rattle.laws.specs.Numbers.{paperOrder, rank, Thing, countOf, numberOf, usedIn, Creates, aTask, aSemaphore, aMutex, On, taskDelete, changePriority, suspend, resume, delayResume, semaphoreDelete, semaphoreWait, semaphorePost, semaphoreAbort, mutexDelete, mutexWait, mutexPost, mutexAbort, FindsNothing, counted, held, Gets, Answered}
 use Rattle.laws.specs.Numbers.{unsound, interrupts, yieldByNone, delayByNone, semaphoreWaitByNone, mutexWaitByNone, mutexPostByNone, beyond, unused, used, createBase, changeBase, semaphoreForce, mutexForce, semaphoreBlock, mutexBlock, noTicks, createQuantum, nonBlocking, lockedYield, lockedDelay, lockedWait, lockedSuspend, lockedDelete, foreign, nestedMutex, nestedLock, nestedSuspend, full, unlocked, notSuspended, notDelayed, noSemaphoreWaiter, noMutexWaiter, noPeer, semaphoreWaiters, mutexWaiters, holder, waits, accepted}
-use Rattle.laws.specs.Reasons.{holding, interrupted, twice, great, locked, kept-on, choose, why}
 
 -- ---- no condition of an earlier number holds
 
@@ -211,17 +210,16 @@ module _ (t : Table) where
     rows (mutexWaiters {m} {force} z d) = own refl (on-mutex refl t m (yes-no refl force (hit _ (both equals (fails equals)) (z, d))))
     rows (holder {i} h) = own refl (on-task refl t i (past (kept-on i t) (within whileLocked refl) (hit _ (holding i t) h)))
     rows (waits {block} f) = own refl (nothing-start refl f (past (equals {x = block} {y = 0}) (within nothingToTake refl) (past (locked t) (within whileLocked refl) itself-soon)))
-    rows {c = c} accepted = own refl (record { soon = listed (answerTo c t) (omega (arith, answers c t .small)) })
+    rows {c = c} accepted = own refl (record { soon = listed (answerTo c t) (omega (arith, answers interrupt t c .small)) })
 
 -- ---- the law
 
 -- The answer of a step is the first number in the paper's order whose condition holds.
 pub numbers : (c : Call) (interrupt : Bool) (t : Table) → Answered (step c interrupt t .answer) c interrupt t
+unfolding answer
 numbers c interrupt t =
     record {
-      holds =
-          subst (λ (n : ℕ). Gets interrupt t n c) (sym (whole c interrupt t))
-          (choose (sound t) (λ s. choose (interrupted interrupt c) (λ h. interrupts (h .0) (h .1)) λ n. why c) unsound);
+      holds = subst (λ (n : ℕ). Gets interrupt t n c) (sym (whole c interrupt t)) (pick (λ n. Gets interrupt t n c) (sound t) (λ s. accepts c interrupt t .why) unsound);
       first = λ m g. rows t g .comes;
     }
 

@@ -65,42 +65,34 @@ module _ (k : Task) where
       unable true a = absurd (n (able k .holds a .state))
       unable false a = a
 
-  -- Who waits for a semaphore stands in its queue, and who stands there waits for it.
+  -- Who waits for an object stands in its queue,
   pub semaphore-place : k .state ≡ waitsSemaphore → placeOf k ≡ semaphoreQueue (k .object)
   semaphore-place e = state-place (omega arith) ∙ rw e
 
-  pub semaphore-there : (s : ℕ) → s < semaphoreCount → placeOf k ≡ semaphoreQueue s → (k .state ≡ waitsSemaphore) × (k .object ≡ s)
-  semaphore-there s l e = go (place k)
-    where
-      go : Place k → (k .state ≡ waitsSemaphore) × (k .object ≡ s)
-      go (ready a p) = absurd (omega arith)
-      go (forSemaphore a p) = (a, omega arith)
-      go (forMutex a p) = absurd (omega arith)
-      go (nowhere a b c p) = absurd (omega arith)
-
-  -- The same of a mutex, where no semaphore has a number past the semaphores.
   pub mutex-place : k .state ≡ waitsMutex → placeOf k ≡ mutexQueue (k .object)
   mutex-place e = state-place (omega arith) ∙ rw e
 
-  pub mutex-there : (m : ℕ) → m < mutexCount → (k .state ≡ waitsSemaphore → k .object < semaphoreCount) → placeOf k ≡ mutexQueue m
-      → (k .state ≡ waitsMutex) × (k .object ≡ m)
-  mutex-there m l within e = go (place k)
+  -- and who stands in the queue of an object waits for it, a semaphore or a mutex.
+  object-there : {P : Type 0} → placeOf k < queueCount → placeOf k ≢ ableQueue → (k .state ≡ waitsSemaphore → placeOf k ≡ semaphoreQueue (k .object) → P)
+      → (k .state ≡ waitsMutex → placeOf k ≡ mutexQueue (k .object) → P) → P
+  object-there {P} l d semaphore mutex = go (place k)
     where
-      go : Place k → (k .state ≡ waitsMutex) × (k .object ≡ m)
-      go (ready a p) = absurd (omega arith)
-      go (forSemaphore a p) = absurd (omega (arith, within a))
-      go (forMutex a p) = (a, omega arith)
+      go : Place k → P
+      go (ready a p) = absurd (d p)
+      go (forSemaphore a p) = semaphore a p
+      go (forMutex a p) = mutex a p
       go (nowhere a b c p) = absurd (omega arith)
 
-  -- Who stands in the queue of an object waits.
   pub waits-there : placeOf k < queueCount → placeOf k ≢ ableQueue → k .state ≢ plain
-  waits-there l d = go (place k)
-    where
-      go : Place k → k .state ≢ plain
-      go (ready a p) = absurd (d p)
-      go (forSemaphore a p) = omega arith
-      go (forMutex a p) = omega arith
-      go (nowhere a b c p) = absurd (omega arith)
+  waits-there l d = object-there l d (λ a p. omega arith) λ a p. omega arith
+
+  pub semaphore-there : (s : ℕ) → s < semaphoreCount → placeOf k ≡ semaphoreQueue s → (k .state ≡ waitsSemaphore) × (k .object ≡ s)
+  semaphore-there s l e = object-there (omega arith) (λ z. omega arith) (λ a p. (a, omega arith)) λ a p. absurd (omega arith)
+
+  -- For a mutex, where no semaphore has a number past the semaphores.
+  pub mutex-there : (m : ℕ) → m < mutexCount → (k .state ≡ waitsSemaphore → k .object < semaphoreCount) → placeOf k ≡ mutexQueue m
+      → (k .state ≡ waitsMutex) × (k .object ≡ m)
+  mutex-there m l within e = object-there (omega arith) (λ z. omega arith) (λ a p. absurd (omega (arith, within a))) λ a p. (a, omega arith)
 
 -- The semaphore for which a task waits has a number in range.
 pub semaphore-range : {k : Task} → TaskInRange k → k .state ≡ waitsSemaphore → k .object < semaphoreCount

@@ -2,7 +2,7 @@
 use mathlib.Core.Bool.{Bool, true, false, cond}
 use mathlib.Core.Path.{_≡_, refl, sym, ap, fun-ext, _∙_}
 use mathlib.Core.List.{List, [], _∷_, _++_, append-assoc, append-nil}
-use Prim.Native.Nat.{ℕ, zero, suc, _+_, _-_, _≤_, _<_}
+use Prim.Native.Nat.{ℕ, zero, suc, _+_, _-_, _*_, _≤_, _<_}
 use native.Mathlib.Omega.{arith}
 use lib.Dec.{ltb}
 use lib.ListN.{length, drop, length-drop, length-append}
@@ -16,6 +16,7 @@ use Rattle.rules.specs.Tape.{line, badLine, bodyLength, callIn, printed, printe
 use Rattle.rules.specs.declared.Call.{Call}
 use Rattle.rules.specs.declared.Reading.{Reading}
 use Rattle.rules.specs.declared.Reading.the-variants.{Says, Unknown}
+use Rattle.tape.specs.Line.{line-of, line-short}
 use Rattle.tape.specs.Next.{nextOf, nextIn, isBad, isWhole, next-kind, next-behind}
 use Rattle.tape.specs.Play.{Played, stopped, behind, playsOn, plays}
 use Rattle.tape.specs.declared.Next.{Next}
@@ -129,10 +130,11 @@ module _ (serves : Call → Bool → Table → Outcome) where
     pub whole : p .text ++ prints (p .table) (p .rest ++ more) ≡ prints t (l ++ more)
     pub lacks : p .ended ≡ true → nextIn (p .rest) ≡ NoKind
     pub stops : length l ≤ n → 6 ≤ room - length (p .text) → isWhole (nextIn (p .rest)) ≡ false
+    pub short : length (p .text) + 6 * length (p .rest) ≤ 6 * length l
 
   module _ (n room : ℕ) (more : List ℕ) (t : Table) (l : List ℕ) where
     stopped-right : (ended : Bool) → (ended ≡ true → nextIn l ≡ NoKind) → (length l ≤ n → 6 ≤ room → isWhole (nextIn l) ≡ false) → Right n room more t l (stopped ended t l)
-    stopped-right ended e s = record { whole = refl; lacks = e; stops = λ h g. s h (omega arith) }
+    stopped-right ended e s = record { whole = refl; lacks = e; stops = λ h g. s h (omega arith); short = omega arith }
 
     going-right : (length l ≤ n → 6 ≤ room → isWhole (nextIn l) ≡ false) → Right n room more t l (stopped false t l)
     going-right s = stopped-right false (λ e. cc) s
@@ -153,10 +155,13 @@ module _ (serves : Call → Bool → Table → Outcome) where
         → let o = serves c i t in Right n (room - length (line o)) more (o .table) (drop m l) p → Right (suc n) room more t l (behind (line o) p)
     behind-right {c} {i} {m} p e r =
         let w = whole-within l e in
+        let o = serves c i t in
+        let six : length (line o) ≤ 6 = rw (line-of o) (line-short (o .answer) (o .runs)) in
         record {
           whole = rw (append-assoc, r .whole, prints-whole t (l ++ more) (whole-more l more e), drop-append-le m l more (w .1));
           lacks = r .lacks;
           stops = λ h g. r .stops (simp length-drop (omega arith)) (omega (arith, simp length-append at g));
+          short = simp length-append (omega (arith, simp length-drop at (r .short)));
         }
 
   plays-right : (n room : ℕ) (more : List ℕ) (t : Table) (l : List ℕ) → Right n room more t l (plays serves n room t l)
@@ -189,3 +194,7 @@ module _ (serves : Call → Bool → Table → Outcome) where
   pub plays-stops : (n room : ℕ) (t : Table) (l : List ℕ) → length l ≤ n
       → let p = plays serves n room t l in 6 ≤ room - length (p .text) → isWhole (nextIn (p .rest)) ≡ false
   plays-stops n room t l h = plays-right n room [] t l .stops h
+
+  -- A call takes a byte or more and its line 6 at most.
+  pub plays-short : (n room : ℕ) (t : Table) (l : List ℕ) → let p = plays serves n room t l in length (p .text) + 6 * length (p .rest) ≤ 6 * length l
+  plays-short n room t l = plays-right n room [] t l .short
