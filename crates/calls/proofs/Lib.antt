@@ -1,5 +1,6 @@
 mod Ends
-mod Chains
+mod Walks
+mod Places
 mod Endings
 mod ServiceLaws
 mod TaskLaws

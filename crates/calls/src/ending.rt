@@ -38,11 +38,11 @@ pub fn end_wait(s: &mut [u8], outcome: u8, i: usize)
     ensures { λ _. ⌜ view (now (s .exit)) ≡ ended outcome i (view (now (s .entry))) ⌝ }
 {
     let k = cells::task_at(s, i);
-    let holder = walk::next_of(s, i);
-    moves::put_task(s, i, away_from(k));
+    let holder = chain::next_of(s, i);
+    moves::take_out(s, i, away_from(k));
     walk::walk_from(s, holder);
     let settled = cells::task_at(s, i);
-    moves::put_task(s, i, ready_with(outcome, settled));
+    moves::bring_in(s, i, ready_with(outcome, settled));
 }
 
 // The wait of each waiter of queue q ends, from the first.

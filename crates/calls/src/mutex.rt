@@ -76,7 +76,7 @@ pub fn delete_mutex(s: &mut [u8], i: u32, force: u32) -> u8
     if object::refuses(n) {
         return n;
     }
-    let holder = walk::holder_of(s, i as usize);
+    let holder = chain::holder_of(s, i as usize);
     ending::end_all(s, 3, 17 + i as usize);
     cells::set_mutex(
         s,
@@ -154,7 +154,7 @@ fn wait_for(s: &mut [u8], i: usize, limit: u32)
     requires { ⌜ (i < 16) × Image (now s) ⌝ }
     ensures { λ _. ⌜ view (now (s .exit)) ≡ walk (holderOf (view (now (s .entry))) i) (blocked waitsMutex i limit (view (now (s .entry)))) ⌝ }
 {
-    let holder = walk::holder_of(s, i);
+    let holder = chain::holder_of(s, i);
     object::block_on(s, 3, i as u8, limit);
     walk::walk_from(s, holder);
 }

@@ -75,7 +75,7 @@ pub fn take_now(s: &mut [u8])
     let i = time::caller_of(s);
     let mut k = cells::task_at(s, i);
     k.outcome = 0;
-    moves::put_task(s, i, k);
+    moves::keep_task(s, i, k);
 }
 
 pub fn abort_answer(s: &[u8], q: usize) -> u8

@@ -113,8 +113,8 @@ pub fn delete_task(s: &mut [u8], i: u32) -> u8
     if !(n == 0) {
         return n;
     }
-    let holder = walk::next_of(s, i as usize);
-    moves::put_task(s, i as usize, cells::no_task());
+    let holder = chain::next_of(s, i as usize);
+    moves::take_out(s, i as usize, cells::no_task());
     walk::walk_from(s, holder);
     moves::choose(s);
     0
@@ -147,7 +147,7 @@ pub fn change_priority(s: &mut [u8], i: u32, base: u32) -> u8
     }
     let mut k = cells::task_at(s, i as usize);
     k.base = base as u8;
-    moves::put_task(s, i as usize, k);
+    moves::keep_task(s, i as usize, k);
     walk::walk_from(s, i as usize);
     moves::choose(s);
     0

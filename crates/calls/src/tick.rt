@@ -46,7 +46,7 @@ fn turn(s: &mut [u8])
     if (cells::get_running(s) == 0) | (k.quantum == 0) {
         return;
     }
-    moves::put_task(s, i, one_less(k));
+    moves::keep_task(s, i, one_less(k));
     if is_over(s, i, cells::task_at(s, i)) {
         moves::rotate_task(s, i);
     }

@@ -120,7 +120,7 @@ pub fn delay_by(s: &mut [u8], n: u32) -> u8
     k.object = 0;
     k.marked = 1;
     k.due = mark_in(s, n);
-    moves::put_task(s, i, k);
+    moves::take_out(s, i, k);
     moves::choose(s);
     answer
 }

@@ -1,119 +1,69 @@
-// The chain of holders: who waits for whom, working priorities worked out afresh, and the walk.
+// The walk along the chain of holders.
 ghost use mathlib.Core.Path.{_≡_};
-ghost use mathlib.Core.Bool.{cond};
-ghost use Prim.Native.Nat.{min};
-ghost use Rattle.rules.specs.Chain.{leads};
+ghost use Prim.Native.Nat.{_≤_, _<_};
 ghost use Rattle.rules.specs.Walk.{walkOn};
-ghost use Rattle.rules.specs.Move.{holderOf, next, baseOf, freshIn, putWork, walk};
+ghost use Rattle.rules.specs.Move.{next, freshIn, putWork, walk};
 ghost use Rattle.table.specs.Image.{Image, view};
+ghost use Rattle.chain.specs.Given.{Given};
 use table::cells;
 use table::moves;
 
-// The task that holds mutex m; 32, which is no task, for none.
-pub fn holder_of(s: &[u8], m: usize) -> usize
-    requires { ⌜ Image (now s) ⌝ }
-    ensures { λ r. ⌜ r ≡ holderOf (view (now (s .entry))) m ⌝ }
-{
-    let x = cells::mutex_at(s, m);
-    if x.holder == 0 {
-        return 32;
-    }
-    x.holder as usize - 1
+// Where a walk stands, and how many tasks at most it has before it.
+struct Stand {
+    task: usize,
+    left: usize,
 }
 
-// The holder of the mutex for which task j waits, or no task.
-pub fn next_of(s: &[u8], j: usize) -> usize
-    requires { ⌜ Image (now s) ⌝ }
-    ensures { λ r. ⌜ r ≡ next (view (now (s .entry))) j ⌝ }
+// The walk goes past the tasks that work at the right number already: they stay as they are.
+fn pass_right(s: &[u8], given: &[u8], i: usize, left: usize) -> Stand
+    requires { ⌜ Image (now s) × Given (view (now s)) (now given) ⌝ }
+    ensures { λ r. ⌜ (r .left ≤ left) × (walkOn 32 next freshIn putWork left i (view (now (s .entry))) ≡ walkOn 32 next freshIn putWork (r .left) (r .task) (view (now (s .entry)))) ⌝ }
 {
-    let k = cells::task_at(s, j);
-    if k.state == 3 {
-        return holder_of(s, k.object as usize);
-    }
-    32
-}
-
-// Whether a chain of waits leads from task j to task i.
-fn leads_to(s: &[u8], j: usize, i: usize) -> bool
-    requires { ⌜ Image (now s) ⌝ }
-    ensures { λ r. ⌜ r ≡ leads 32 (next (view (now (s .entry)))) 32 j i ⌝ }
-{
-    let mut at = j;
-    let mut waits: usize = 0;
-    while waits < 32 {
-        if at == i {
-            return true;
-        }
+    let mut at = i;
+    let mut n = left;
+    while 0 < n {
         if 32 <= at {
-            return false;
+            return Stand { task: at, left: n };
         }
-        at = next_of(s, at);
-        waits += 1;
-    }
-    false
-}
-
-fn base_of(s: &[u8], j: usize) -> u8
-    requires { ⌜ Image (now s) ⌝ }
-    ensures { λ r. ⌜ r ≡ baseOf (view (now (s .entry))) j ⌝ }
-{
-    let k = cells::task_at(s, j);
-    k.base
-}
-
-// The smaller of least and the base of task j, if a chain leads from there to i.
-fn least_with(s: &[u8], i: usize, j: usize, least: u8) -> u8
-    requires { ⌜ Image (now s) ⌝ }
-    ensures { λ r. ⌜ r ≡ cond (leads 32 (next (view (now (s .entry)))) 32 j i) (min (baseOf (view (now (s .entry))) j) least) least ⌝ }
-{
-    if leads_to(s, j, i) {
-        let b = base_of(s, j);
-        if b < least {
-            return b;
+        let p = chain::fresh_of(s, given, at);
+        if cells::get_work(s, at) != p {
+            return Stand { task: at, left: n };
         }
-        return least;
+        at = chain::next_of(s, at);
+        n -= 1;
     }
-    least
+    Stand { task: at, left: n }
 }
 
-// The working priority of task i, worked out afresh.
-pub fn fresh_of(s: &[u8], i: usize) -> u8
-    requires { ⌜ Image (now s) ⌝ }
-    ensures { λ r. ⌜ r ≡ freshIn (view (now (s .entry))) i ⌝ }
-{
-    let mut least = base_of(s, i);
-    let mut j = 0;
-    while j < 32 {
-        least = least_with(s, i, j, least);
-        j += 1;
-    }
-    least
-}
-
+// Task i gets the working priority p.
 fn put_work(s: &mut [u8], i: usize, p: u8)
-    requires { ⌜ Image (now s) ⌝ }
+    requires { ⌜ (i < 32) × Image (now s) ⌝ }
     ensures { λ _. ⌜ view (now (s .exit)) ≡ putWork (view (now (s .entry))) i p ⌝ }
 {
-    let mut k = cells::task_at(s, i);
+    let mut k = cells::get_task(s, i);
     k.work = p;
     moves::put_task(s, i, k);
 }
 
-// From task i along the holders, `left` tasks at most: each gets its working priority worked out afresh.
-pub fn walk_on(s: &mut [u8], i: usize, left: usize)
-    requires { ⌜ Image (now s) ⌝ }
+// From task i along the holders, `left` tasks at most: each gets its working priority worked out afresh. These do not change on the way,
+// so what each task is given along the chains has been found out before.
+fn walk_on(s: &mut [u8], given: &[u8], i: usize, left: usize)
+    requires { ⌜ Image (now s) × Given (view (now s)) (now given) ⌝ }
     ensures { λ _. ⌜ view (now (s .exit)) ≡ walkOn 32 next freshIn putWork left i (view (now (s .entry))) ⌝ }
 {
-    if left == 0 {
+    let stand = pass_right(s, given, i, left);
+    let at = stand.task;
+    let n = stand.left;
+    if n == 0 {
         return;
     }
-    if 32 <= i {
+    if 32 <= at {
         return;
     }
-    let further = next_of(s, i);
-    let p = fresh_of(s, i);
-    put_work(s, i, p);
-    walk_on(s, further, left - 1);
+    let further = chain::next_of(s, at);
+    let p = chain::fresh_of(s, given, at);
+    put_work(s, at, p);
+    walk_on(s, given, further, n - 1);
 }
 
 // The whole walk from task i.
@@ -121,5 +71,10 @@ pub fn walk_from(s: &mut [u8], i: usize)
     requires { ⌜ Image (now s) ⌝ }
     ensures { λ _. ⌜ view (now (s .exit)) ≡ walk i (view (now (s .entry))) ⌝ }
 {
-    walk_on(s, i, 32);
+    if 32 <= i {
+        return;
+    }
+    let mut given = [255u8; 32];
+    chain::carry_all(s, &mut given);
+    walk_on(s, &given, i, 32);
 }

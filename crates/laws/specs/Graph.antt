@@ -8,18 +8,18 @@ use native.Mathlib.Decide.{ℕ-discrete}
 use native.Mathlib.Omega.{arith}
 use lib.Dec.{eqb}
 use lib.ListN.{length, getD, set, length-set, length-map, List·getD-eq-default}
-use lib.Seq.{getD-set-same, getD-set-other}
+use lib.Seq.{getD-set-same, getD-set-other, set-getD}
 use borrow.Author.Tests.{eqb-false, eq-eqb, ne-eqb}
 use Rattle.rules.specs.Sizes.{taskCount, waitsMutex}
 use Rattle.rules.specs.Chain.{Leads, Ends, Fresh, fresh}
 use Rattle.rules.specs.Afresh.{lt-or-le, fresh-is, fresh-one}
-use Rattle.rules.specs.Table.{Table, taskOf, mutexOf, works, written, noTask, noMutex, withWork, withMutex}
+use Rattle.rules.specs.Table.{Table, taskOf, mutexOf, works, written, noTask, noMutex, withWork, withTask, withMutex}
 use Rattle.rules.specs.Move.{holderOf, next, baseOf, freshIn, putWork, walk}
 use Rattle.rules.specs.declared.Task.{Task}
 use Rattle.rules.specs.declared.Mutex.{Mutex}
 use Rattle.laws.specs.Settled.{WorkedOut}
 use Rattle.laws.specs.Walk.{walkOn-work, walk-fresh}
-use Rattle.laws.specs.Put.{part-set, Stored, put-stored, work-at, works-put, walk-keeps}
+use Rattle.laws.specs.Put.{part-set, Stored, put-stays, put-stored, place-same, work-at, works-put, walk-keeps}
 use Rattle.laws.specs.Fields.{walk-size}
 
 -- The task for which a record waits, or no task.
@@ -181,11 +181,18 @@ module _ (t : Table) (i p : ℕ) (l : i < taskCount) where
   work-next : next (putWork t i p) ≡ next t
   work-next = fun-ext (stored-nexts stored (work-waits (holderOf t) p (taskOf t i) ∙ sym (next-is t i)))
 
-  work-base : baseOf (putWork t i p) ≡ baseOf t
+  pub work-base : baseOf (putWork t i p) ≡ baseOf t
   work-base = fun-ext (stored-bases stored refl)
 
   work-works : works (putWork t i p) ≡ set (works t) i p
   work-works = works-put i (withWork p (taskOf t i)) t l
+
+  -- The working priority that the task has already changes nothing.
+  pub work-same : taskOf t i .work ≡ p → putWork t i p ≡ t
+  work-same e =
+      put-stays i (withWork p (taskOf t i)) t l (place-same (withWork p (taskOf t i)) (taskOf t i) refl refl refl refl) e
+      ∙ ap (λ (x : ℕ). withTask i (withWork x (taskOf t i)) t) (sym e)
+      ∙ rw (set-getD (t .tasks) i noTask)
 
   -- A new working priority changes no number worked out afresh.
   pub work-fresh : freshIn (putWork t i p) ≡ freshIn t

@@ -13,7 +13,7 @@ use Rattle.queue.specs.Slots.{keyOf}
 use Rattle.queue.specs.Order.{All, none, more, Ordered, empty, front, count}
 use Rattle.queue.specs.Keeps.{key-own}
 use Rattle.queue.specs.Stands.{one-other, stands-at, stands-some}
-use Rattle.rules.specs.Sizes.{taskCount, semaphoreCount, mutexCount, plain, waitsSemaphore, waitsMutex}
+use Rattle.rules.specs.Sizes.{taskCount, semaphoreCount, mutexCount, plain, delayed, waitsSemaphore, waitsMutex}
 use Rattle.rules.specs.Table.{Table, taskOf, queueOf, queueCount, ableQueue, semaphoreQueue, mutexQueue, firstIn, works, isAble, placeOf, written}
 use Rattle.rules.specs.Decides.{Decides, equals, first, last}
 use Rattle.rules.specs.Sound.{Empty, once, objectsIn, TaskInRange}
@@ -71,6 +71,10 @@ module _ (k : Task) where
 
   pub mutex-place : k .state ≡ waitsMutex → placeOf k ≡ mutexQueue (k .object)
   mutex-place e = state-place (omega arith) ∙ rw e
+
+  -- who is delayed stands in none,
+  pub delayed-place : k .state ≡ delayed → placeOf k ≡ queueCount
+  delayed-place e = state-place (omega arith) ∙ rw e
 
   -- and who stands in the queue of an object waits for it, a semaphore or a mutex.
   object-there : {P : Type 0} → placeOf k < queueCount → placeOf k ≢ ableQueue → (k .state ≡ waitsSemaphore → placeOf k ≡ semaphoreQueue (k .object) → P)

@@ -4,5 +4,4 @@ pub mod Tasks
 pub mod Objects
 pub mod Lines
 pub mod Queues
-pub mod Works
 pub mod Whole

@@ -1,7 +1,8 @@
--- The tests of the semaphores and mutexes, in the order in which the code makes them, and what they say.
+-- The tests of the semaphores and mutexes, what they say, and the order in which the code asks.
 use mathlib.Core.Path.{_≡_, ap}
 use mathlib.Core.Bool.{Bool, cond, not, _&&_, _||_}
 use Prim.Native.Nat.{ℕ, _-_, _≤_}
+use native.Mathlib.Omega.{arith}
 use lib.Dec.{eqb, leb}
 use Rattle.rules.specs.Sizes.{taskCount, semaphoreCount, mutexCount, mostNested, mostCount}
 use Rattle.rules.specs.declared.Semaphore.{Semaphore}
@@ -9,7 +10,7 @@ use Rattle.rules.specs.declared.Mutex.{Mutex}
 use Rattle.rules.specs.Table.{Table, taskOf, semaphoreOf, mutexOf, placeOf, firstIn, semaphoreQueue, mutexQueue, noSemaphore, noMutex}
 use Rattle.rules.specs.Sound.{Each, each}
 use Rattle.rules.specs.Decides.{Decides, equals, at-most, fails, first, last, both, each-one}
-use Rattle.sound.specs.Tests.{otherwise, unless, by-cases}
+use Rattle.sound.specs.Tests.{same-test, otherwise, unless, by-cases}
 
 -- ---- semaphores: x, with the front slot of its queue
 
@@ -37,6 +38,27 @@ semaphore-right x front =
     first (λ r e. (ap (λ (y : Semaphore). y .count) (r .free e .0), r .free e .1)) (unless equals (both equals equals)) λ free.
     last (λ r. r .waited) (otherwise equals equals) λ waited.
     record { used = used; count = count; free = λ e. (λ i. record { used = e i; count = free e .0 i }, free e .1); waited = waited }
+
+-- The order in which the code asks: a free number, and one in use. Every count of 32 bits is in range.
+module _ (x : Semaphore) (front : ℕ) (c : x .count ≤ mostCount) where
+  pub free-right : x .used ≡ 0 → eqb (x .count) 0 && eqb front 0 ≡ isSemaphoreRight x front
+  free-right e =
+      same-test
+      (first (λ r. ap (λ (y : Semaphore). y .count) (r .free e .0)) equals λ count.
+      last (λ r. r .free e .1) equals λ none.
+      record { used = omega arith; count = c; free = λ q. (λ i. record { used = e i; count = count i }, none); waited = λ n. count })
+      (semaphore-right x front)
+
+  pub used-right : (x .used ≡ 0 → ⊥) → eqb (x .used) 1 && (eqb front 0 || eqb (x .count) 0) ≡ isSemaphoreRight x front
+  used-right n =
+      same-test
+      (first one equals λ used.
+      last (λ r. r .waited) (otherwise equals equals) λ waited.
+      record { used = omega arith; count = c; free = λ e. absurd (n e); waited = waited })
+      (semaphore-right x front)
+    where
+      one : SemaphoreRight x front → x .used ≡ 1
+      one r = omega (arith, r .used)
 
 pub semaphores-right : (t : Table) → Decides (each semaphoreCount (semaphoreRight t)) (Each semaphoreCount (λ s. SemaphoreRight (semaphoreOf t s) (firstIn (semaphoreQueue s) t)))
 semaphores-right t = each-one (λ s l. semaphore-right (semaphoreOf t s) (firstIn (semaphoreQueue s) t))
@@ -106,3 +128,52 @@ mutex-right t m =
 
 pub mutexes-right : (t : Table) → Decides (each mutexCount (mutexRight t)) (Each mutexCount (MutexRight t))
 mutexes-right t = each-one (λ m l. mutex-right t m)
+
+-- ---- the order in which the code asks: a mutex that no one holds, and one that is held
+
+unfoldable pub isUnheldRight : Mutex → ℕ → Bool
+isUnheldRight x front = leb (x .used) 1 && (eqb (x .nesting) 0 && eqb front 0)
+
+unfoldable pub isHeldBy : Table → ℕ → Mutex → Bool
+isHeldBy t m x =
+    eqb (x .used) 1
+    && (leb (x .holder) taskCount
+    && (leb 1 (x .nesting)
+    && (leb (x .nesting) mostNested
+    && (eqb (taskOf t (x .holder - 1) .used) 1
+    && not (eqb (placeOf (taskOf t (x .holder - 1))) (mutexQueue m))))))
+
+module _ (t : Table) (m : ℕ) where
+  pub unheld-right : mutexOf t m .holder ≡ 0 → isUnheldRight (mutexOf t m) (firstIn (mutexQueue m) t) ≡ mutexRight t m
+  unfolding isUnheldRight
+  unheld-right h =
+      same-test
+      (first (λ r. r .inRange .used) at-most λ used.
+      first (λ r. r .held .free h .0) equals λ nesting.
+      last (λ r. r .held .free h .1) equals λ none.
+      record {
+        inRange = record { used = used; holder = omega arith; nesting = omega arith; free = λ u. (λ i. record { used = u i; holder = h i; nesting = nesting i }, none) };
+        held = record { free = λ e. (nesting, none); nested = λ n. absurd (n h); inUse = λ n. absurd (n h); apart = λ n. absurd (n h) };
+      })
+      (mutex-right t m)
+
+  held-used : (mutexOf t m .holder ≡ 0 → ⊥) → MutexRight t m → mutexOf t m .used ≡ 1
+  held-used n r =
+      let free : mutexOf t m .used ≡ 0 → ⊥ = λ e. n (ap (λ (y : Mutex). y .holder) (r .inRange .free e .0)) in
+      omega (arith, r .inRange .used)
+
+  pub held-right : (mutexOf t m .holder ≡ 0 → ⊥) → isHeldBy t m (mutexOf t m) ≡ mutexRight t m
+  unfolding isHeldBy
+  held-right n =
+      same-test
+      (first (held-used n) equals λ used.
+      first (λ r. r .inRange .holder) at-most λ holder.
+      first (λ r. r .held .nested n) at-most λ nested.
+      first (λ r. r .inRange .nesting) at-most λ nesting.
+      first (λ r. r .held .inUse n) equals λ inUse.
+      last (λ r. r .held .apart n) (fails equals) λ apart.
+      record {
+        inRange = record { used = omega arith; holder = holder; nesting = nesting; free = λ e. absurd (omega arith) };
+        held = record { free = λ e. absurd (n e); nested = λ q. nested; inUse = λ q. inUse; apart = λ q. apart };
+      })
+      (mutex-right t m)

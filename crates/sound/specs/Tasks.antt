@@ -1,14 +1,15 @@
--- The tests of a task by itself, in the order in which the code makes them, and what they say.
+-- The tests of a task by itself, what they say, and the order in which the code asks.
 use mathlib.Core.Path.{_≡_, refl, sym, ap, subst}
 use mathlib.Core.Bool.{Bool, true, false, cond, not, _&&_, _||_}
 use mathlib.Core.List.{List}
 use Prim.Native.Nat.{ℕ, _≤_, _<_, min}
+use native.Mathlib.Decide.{ℕ-discrete}
 use native.Mathlib.Omega.{arith}
+use borrow.Author.Tests.{eq-eqb, ne-eqb}
 use lib.Dec.{eqb, leb, ltb}
 use Rattle.rules.specs.Sizes.{taskCount, lastPriority, mostNested, mostQuantum, ticksRound, plain, delayed, waitsSemaphore, waitsMutex, objectDeleted}
 use Rattle.rules.specs.declared.Task.{Task}
-use Rattle.rules.specs.Table.{Table, taskOf, semaphoreOf, mutexOf, queueCount, placeOf, noTask}
-use Rattle.rules.specs.Move.{baseOf}
+use Rattle.rules.specs.Table.{Table, taskOf, semaphoreOf, mutexOf, queueCount, placeOf, isAble, noTask}
 use Rattle.rules.specs.Sound.{Each, each, TaskInRange, isNoTask, objectsIn, marksIn}
 use Rattle.rules.specs.Tested.{no-task}
 use Rattle.rules.specs.Decides.{Decides, equals, at-most, fails, first, last, both, each-one}
@@ -45,23 +46,30 @@ isServed t k =
     cond (eqb (k .state) waitsSemaphore) (eqb (semaphoreOf t (k .object) .used) 1)
     (cond (eqb (k .state) waitsMutex) (eqb (mutexOf t (k .object) .used) 1) true)
 
--- A free number is all zero; a task in use is fit, timely and served.
+-- A task in use is fit, timely and served.
+unfoldable pub isUseRight : Table → Task → Bool
+isUseRight t k = (isFit k && isTimely (t .tick) k) && isServed t k
+
+-- A free number is all zero.
 unfoldable pub isTaskRight : Table → Task → Bool
-isTaskRight t k = cond (eqb (k .used) 0) (isNoTask k) ((isFit k && isTimely (t .tick) k) && isServed t k)
+isTaskRight t k = cond (eqb (k .used) 0) (isNoTask k) (isUseRight t k)
 
 -- The queue where a task stands, `queueCount` for none.
 unfoldable pub spotOf : Task → ℕ
 spotOf k = min (placeOf k) queueCount
 
+-- The same, and `queueCount + 1` for a task that is not right.
+unfoldable pub spotIn : Table → Task → ℕ
+spotIn t k = cond (isTaskRight t k) (spotOf k) 34
+
 abbrev pub Spotted : Table → List ℕ → Type 0
 Spotted t spots = Shows spots (λ i. spotOf (taskOf t i)) taskCount
 
 -- What the pass over the tasks answers and leaves.
-pub record TasksPassed (t : Table) (r : Bool) (spots least : List ℕ) : Type 0 where
+pub record TasksPassed (t : Table) (r : Bool) (spots : List ℕ) : Type 0 where
   pub test : r ≡ each taskCount (λ i. isTaskRight t (taskOf t i))
   pub tick : t .tick < ticksRound
   pub spotted : r ≡ true → Spotted t spots
-  pub based : r ≡ true → Shows least (baseOf t) taskCount
 
 -- ---- what they say
 
@@ -137,7 +145,7 @@ fit k =
     }
 
 pub task-right : (t : Table) (k : Task) → Decides (isTaskRight t k) (TaskRight t k)
-unfolding isTaskRight
+unfolding isTaskRight isUseRight
 task-right t k =
     by-cases equals
     (λ e. last (λ r. r .free e) (no-task k) λ z. subst (TaskRight t) (sym z) (blank-right t))
@@ -162,3 +170,44 @@ objects-most state = go (eqb state waitsSemaphore) (eqb state waitsMutex)
 -- A fit task waits for an object that is there.
 pub fit-object : (k : Task) → isFit k ≡ true → k .object < 16
 fit-object k e = omega (arith, fit k .holds e .inRange .object, objects-most (k .state))
+
+-- ---- the order in which the code asks
+
+-- One that is not blank is right where it is right as a task in use.
+use-right : (t : Table) (k : Task) → isNoTask k ≡ false → isTaskRight t k ≡ isUseRight t k
+unfolding isTaskRight isUseRight isFit
+use-right t k e = go (ℕ-discrete (k .used) 0)
+  where
+    go : Dec (k .used ≡ 0) → isTaskRight t k ≡ isUseRight t k
+    go (yes z) = rw (eq-eqb (k .used) 0 z, e, ne-eqb (k .used) 1 (λ o. omega arith))
+    go (no n) = rw (ne-eqb (k .used) 0 n)
+
+-- A blank number is right and stands nowhere.
+pub spot-blank : (t : Table) (k : Task) → isNoTask k ≡ true → 33 ≡ spotIn t k
+unfolding spotIn isTaskRight spotOf placeOf isAble isNoTask
+spot-blank t k e = rw (no-task k .holds e) refl
+
+pub spot-used : (t : Table) (k : Task) (b : Bool) → isNoTask k ≡ false → isUseRight t k ≡ b → cond b (spotOf k) 34 ≡ spotIn t k
+unfolding spotIn
+spot-used t k b e h = rw (use-right t k e, h) refl
+
+spot-most : (k : Task) → spotOf k ≤ 33
+unfolding spotOf
+spot-most k = omega arith
+
+-- The spot tells whether the task is right.
+pub spot-past : (t : Table) (k : Task) → 33 < spotIn t k → isTaskRight t k ≡ false
+unfolding spotIn
+spot-past t k h = go (isTaskRight t k) refl
+  where
+    go : (b : Bool) → isTaskRight t k ≡ b → isTaskRight t k ≡ false
+    go true e = absurd (omega (arith, spot-most k, subst (λ (c : Bool). 33 < cond c (spotOf k) 34) e h))
+    go false e = e
+
+pub spot-here : (t : Table) (k : Task) → spotIn t k ≤ 33 → (isTaskRight t k ≡ true) × (spotIn t k ≡ spotOf k)
+unfolding spotIn
+spot-here t k h = go (isTaskRight t k) refl
+  where
+    go : (b : Bool) → isTaskRight t k ≡ b → (isTaskRight t k ≡ true) × (spotIn t k ≡ spotOf k)
+    go true e = (e, rw e refl)
+    go false e = absurd (omega (arith, subst (λ (c : Bool). cond c (spotOf k) 34 ≤ 33) e h))

@@ -34,14 +34,13 @@ fn is_run_right(s: &[u8]) -> bool
 }
 
 // Whether the table that the image shows is sound: a pass over the tasks, one over the objects, one over the queues. The pass over the
-// tasks fills the arrays that the queues and the working priorities are held against.
+// tasks fills the array that the queues are held against.
 pub fn is_sound(s: &[u8]) -> bool
     requires { ⌜ Image (now s) ⌝ }
     ensures { λ r. ⌜ r ≡ isSound (view (now (s .entry))) ⌝ }
 {
     let mut spots = [33u8; 32];
-    let mut least = [0u8; 32];
-    if !tasks::are_tasks_right(s, &mut spots, &mut least) {
+    if !tasks::are_tasks_right(s, &mut spots) {
         return false;
     }
     if !objects::are_semaphores_right(s) {
@@ -53,7 +52,7 @@ pub fn is_sound(s: &[u8]) -> bool
     if !queues::are_queues_right(s, &mut spots) {
         return false;
     }
-    if !works::are_works_right(s, &mut least) {
+    if !works::are_works_right(s) {
         return false;
     }
     is_run_right(s)

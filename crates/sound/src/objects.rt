@@ -3,15 +3,16 @@ ghost use mathlib.Core.Path.{_≡_};
 ghost use Prim.Native.Nat.{_<_};
 ghost use Rattle.rules.specs.Sound.{each};
 ghost use Rattle.table.specs.Image.{Image, view};
-ghost use Rattle.sound.specs.Objects.{isSemaphoreRight, semaphoreRight, isMutexInRange, isHeldWell, mutexRight};
+ghost use Rattle.sound.specs.Objects.{isSemaphoreRight, semaphoreRight, isUnheldRight, isHeldBy, mutexRight};
 
 // A semaphore, with the front slot of its queue.
 fn is_semaphore_right(x: rules::Semaphore, front: u8) -> bool
     ensures { λ r. ⌜ r ≡ isSemaphoreRight x front ⌝ }
 {
-    (x.used <= 1)
-        & ((x.count <= 4294967295)
-            & (((x.used != 0) | ((x.count == 0) & (front == 0))) & ((front == 0) | (x.count == 0))))
+    if x.used == 0 {
+        return (x.count == 0) & (front == 0);
+    }
+    (x.used == 1) & ((front == 0) | (x.count == 0))
 }
 
 pub fn are_semaphores_right(s: &[u8]) -> bool
@@ -30,37 +31,36 @@ pub fn are_semaphores_right(s: &[u8]) -> bool
     true
 }
 
-// A mutex by itself, with the front slot of its queue.
-fn is_mutex_in_range(x: rules::Mutex, front: u8) -> bool
-    ensures { λ r. ⌜ r ≡ isMutexInRange x front ⌝ }
+// A mutex that no one holds, with the front slot of its queue.
+fn is_unheld_right(x: rules::Mutex, front: u8) -> bool
+    ensures { λ r. ⌜ r ≡ isUnheldRight x front ⌝ }
 {
-    (x.used <= 1)
-        & ((x.holder <= 32)
-            & ((x.nesting <= 250)
-                & ((x.used != 0) | ((x.holder == 0) & ((x.nesting == 0) & (front == 0))))))
+    (x.used <= 1) & ((x.nesting == 0) & (front == 0))
 }
 
-// Its holder and its nesting; m is its number.
-fn is_held_well(s: &[u8], m: usize, x: rules::Mutex, front: u8) -> bool
-    requires { ⌜ (m < 16) × Image (now s) ⌝ }
-    ensures { λ r. ⌜ r ≡ isHeldWell (view (now (s .entry))) m x front ⌝ }
+// A mutex that is held; m is its number.
+fn is_held_well(s: &[u8], m: usize, x: rules::Mutex) -> bool
+    requires { ⌜ (m < 16) × (0 < x .holder) × Image (now s) ⌝ }
+    ensures { λ r. ⌜ r ≡ isHeldBy (view (now (s .entry))) m x ⌝ }
 {
-    let h = x.holder;
-    if h == 0 {
-        return (x.nesting == 0) & (front == 0);
-    }
-    let k = table::cells::task_at(s, h as usize - 1);
+    let k = table::cells::task_at(s, x.holder as usize - 1);
     let q = table::moves::place_of(k);
-    (1 <= x.nesting) & ((k.used == 1) & (q != 17 + m))
+    (x.used == 1)
+        & ((x.holder <= 32)
+            & ((1 <= x.nesting) & ((x.nesting <= 250) & ((k.used == 1) & (q != 17 + m)))))
 }
 
+// Most mutexes are held by no one, in use or not, and so that is asked first.
 fn is_mutex_right(s: &[u8], m: usize) -> bool
     requires { ⌜ (m < 16) × Image (now s) ⌝ }
     ensures { λ r. ⌜ r ≡ mutexRight (view (now (s .entry))) m ⌝ }
 {
     let x = table::cells::get_mutex(s, m);
     let front = table::moves::first_in(s, 17 + m);
-    is_mutex_in_range(x, front) & is_held_well(s, m, x, front)
+    if x.holder == 0 {
+        return is_unheld_right(x, front);
+    }
+    is_held_well(s, m, x)
 }
 
 pub fn are_mutexes_right(s: &[u8]) -> bool

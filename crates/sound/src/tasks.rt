@@ -1,25 +1,58 @@
 // Each task by itself: its fields, its marks, what it waits for.
 ghost use mathlib.Core.Path.{_≡_};
-ghost use Prim.Native.Nat.{_<_};
+ghost use mathlib.Core.List.{[], _∷_};
+ghost use Prim.Native.Nat.{_+_, _*_, _≤_, _<_};
 ghost use lib.Dec.{ltb};
 ghost use lib.ListN.{length};
+ghost use Rattle.rules.specs.Table.{taskOf};
 ghost use Rattle.rules.specs.Sound.{isNoTask, objectsIn, marksIn};
-ghost use Rattle.table.specs.Image.{Image, view};
-ghost use Rattle.sound.specs.Tasks.{isFit, isTimely, isServed, isTaskRight, spotOf, TasksPassed};
+ghost use Rattle.table.specs.Parts.{wordAt};
+ghost use Rattle.table.specs.Image.{Image, view, taskIn};
+ghost use Rattle.sound.specs.Tasks.{isFit, isTimely, isServed, isUseRight, spotOf, spotIn, TasksPassed};
 
-// Whether every field is 0.
-fn is_blank(k: rules::Task) -> bool
-    ensures { λ r. ⌜ r ≡ isNoTask k ⌝ }
+// The number of eight bytes, the lowest first, of which the lower four are a number already. The compiler makes one load of it, and of no
+// other form of the sum.
+fn le64(low: u32, a: u8, b: u8, c: u8, d: u8) -> u64
+    ensures { λ r. ⌜ r ≡ low + 4294967296 * wordAt 4 0 (a ∷ b ∷ c ∷ d ∷ []) ⌝ }
 {
-    (k.used == 0)
-        & ((k.base == 0)
-            & ((k.work == 0)
-                & ((k.suspend == 0)
-                    & ((k.quantum == 0)
-                        & ((k.left == 0)
-                            & ((k.state == 0)
-                                & ((k.object == 0)
-                                    & ((k.marked == 0) & ((k.due == 0) & (k.outcome == 0))))))))))
+    low as u64
+        + 4294967296 * (a as u64)
+        + 1099511627776 * (b as u64)
+        + 281474976710656 * (c as u64)
+        + 72057594037927936 * (d as u64)
+}
+
+fn four_at(b: &[u8], at: usize) -> u32
+    requires { ⌜ at + 4 ≤ length (now b) ⌝ }
+    ensures { λ r. ⌜ r ≡ wordAt 4 at (now (b .entry)) ⌝ }
+{
+    table::cells::le32(b[at], b[at + 1], b[at + 2], b[at + 3])
+}
+
+fn eight_at(b: &[u8], at: usize) -> u64
+    requires { ⌜ at + 8 ≤ length (now b) ⌝ }
+    ensures { λ r. ⌜ r ≡ wordAt 8 at (now (b .entry)) ⌝ }
+{
+    let low = four_at(b, at);
+    le64(low, b[at + 4], b[at + 5], b[at + 6], b[at + 7])
+}
+
+// Whether a cell and its working priority are all zero. The two numbers share a byte, as a cell has 15.
+fn is_blank(b: &[u8], work: u8) -> bool
+    requires { ⌜ length (now b) ≡ 15 ⌝ }
+    ensures { λ r. ⌜ r ≡ isNoTask (taskIn work (now (b .entry))) ⌝ }
+{
+    (eight_at(b, 0) == 0) & ((eight_at(b, 7) == 0) & (work == 0))
+}
+
+fn is_free(s: &[u8], i: usize) -> bool
+    requires { ⌜ (i < 32) × Image (now s) ⌝ }
+    ensures { λ r. ⌜ r ≡ isNoTask (taskOf (view (now (s .entry))) i) ⌝ }
+{
+    let a = 32 + i * 15;
+    let e = a + 15;
+    let work = s[i];
+    is_blank(&s[a..e], work)
 }
 
 fn objects_in(state: u8) -> u8
@@ -85,13 +118,11 @@ fn is_served(s: &[u8], k: rules::Task) -> bool
     true
 }
 
-fn is_task_right(s: &[u8], k: rules::Task, tick: u32) -> bool
+// A task that is not blank.
+fn is_use_right(s: &[u8], k: rules::Task, tick: u32) -> bool
     requires { ⌜ (tick ≡ view (now s) .tick) × Image (now s) ⌝ }
-    ensures { λ r. ⌜ r ≡ isTaskRight (view (now (s .entry))) k ⌝ }
+    ensures { λ r. ⌜ r ≡ isUseRight (view (now (s .entry))) k ⌝ }
 {
-    if k.used == 0 {
-        return is_blank(k);
-    }
     let fit = is_fit(k) & is_timely(k, tick);
     if !fit {
         return false;
@@ -110,20 +141,34 @@ fn spot_of(k: rules::Task) -> u8
     33
 }
 
-// One pass over the tasks. Where all are right, the arrays lent have where each stands, and its base priority.
-pub fn are_tasks_right(s: &[u8], spots: &mut [u8], least: &mut [u8]) -> bool
-    requires { ⌜ Image (now s) × (length (now spots) ≡ 32) × (length (now least) ≡ 32) ⌝ }
-    ensures { λ r. ⌜ TasksPassed (view (now (s .entry))) r (now (spots .exit)) (now (least .exit)) ⌝ }
+// Where task i stands; 34 where it is not right. Most numbers are free, and so that is asked first, of the bytes as they are.
+fn spot_in(s: &[u8], i: usize, tick: u32) -> u8
+    requires { ⌜ (i < 32) × (tick ≡ view (now s) .tick) × Image (now s) ⌝ }
+    ensures { λ r. ⌜ r ≡ spotIn (view (now (s .entry))) (taskOf (view (now (s .entry))) i) ⌝ }
+{
+    if is_free(s, i) {
+        return 33;
+    }
+    let k = table::cells::get_task(s, i);
+    if !is_use_right(s, k, tick) {
+        return 34;
+    }
+    spot_of(k)
+}
+
+// One pass over the tasks. Where all are right, the array lent has where each stands.
+pub fn are_tasks_right(s: &[u8], spots: &mut [u8]) -> bool
+    requires { ⌜ Image (now s) × (length (now spots) ≡ 32) ⌝ }
+    ensures { λ r. ⌜ TasksPassed (view (now (s .entry))) r (now (spots .exit)) ⌝ }
 {
     let tick = table::cells::get_tick(s);
     let mut i = 0;
     while i < 32 {
-        let k = table::cells::get_task(s, i);
-        if !is_task_right(s, k, tick) {
+        let q = spot_in(s, i, tick);
+        if 33 < q {
             return false;
         }
-        spots[i] = spot_of(k);
-        least[i] = k.base;
+        spots[i] = q;
         i += 1;
     }
     true

@@ -1,6 +1,6 @@
 -- How tasks change their places, in the image and in the table. Assumes nothing.
 use mathlib.Core.Path.{_≡_, refl, sym, ap, ap₂, subst, _∙_}
-use mathlib.Core.Bool.{true, false}
+use mathlib.Core.Bool.{Bool, true, false}
 use mathlib.Core.List.{List, [], _∷_, map}
 use Prim.Native.Nat.{ℕ, zero, suc, _+_, _≤_, _<_}
 use native.Mathlib.Nat.{add-zero}
@@ -13,6 +13,7 @@ use Rattle.queue.specs.Slots.{placeBehind, opened, behind, without}
 use Rattle.queue.specs.Lengths.{length-behind, length-without}
 use Rattle.rules.specs.declared.Task.{Task}
 use Rattle.rules.specs.Table.{Table, taskOf, queueOf, works, placeOf, firstIn, noTask, withTask, withQueue, withRunning, withLeft}
+use Rattle.rules.specs.Decides.{equals, itself, both}
 use Rattle.rules.specs.Move.{leave, join, stays, put, rotate, chosen}
 use Rattle.table.specs.Parts.{part, tabulate}
 use Rattle.table.specs.Image.{Image, queueAt, taskIn, view}
@@ -92,6 +93,30 @@ module _ (i : ℕ) (k : Task) (t : Table) where
   pub put-not : 32 ≤ i → put i k t ≡ t
   unfolding put
   put-not l = rw (le-ltb i 32 l)
+
+  kept-place : stays (taskOf t i) k ≡ true → placeOf (taskOf t i) ≡ placeOf k
+  unfolding stays
+  kept-place h = both equals itself .holds h .0
+
+  -- A record that stands in no queue: the task leaves its own.
+  pub put-out : i < 32 → 33 ≤ placeOf k → put i k t ≡ leave (placeOf (taskOf t i)) i (withTask i k t)
+  put-out l h = go (stays (taskOf t i) k) refl
+    where
+      go : (b : Bool) → stays (taskOf t i) k ≡ b → put i k t ≡ leave (placeOf (taskOf t i)) i (withTask i k t)
+      go true e = put-stays l e ∙ sym (leave-not _ i (withTask i k t) (omega (arith, kept-place e)))
+      go false e = put-moves l e ∙ join-not _ i _ h
+
+  -- A task that stands in no queue joins that of its record.
+  pub put-into : i < 32 → 33 ≤ placeOf (taskOf t i) → put i k t ≡ join (placeOf k) i (withTask i k t)
+  put-into l h = go (stays (taskOf t i) k) refl
+    where
+      go : (b : Bool) → stays (taskOf t i) k ≡ b → put i k t ≡ join (placeOf k) i (withTask i k t)
+      go true e = put-stays l e ∙ sym (join-not _ i (withTask i k t) (omega (arith, kept-place e)))
+      go false e = put-moves l e ∙ ap (join (placeOf k) i) (leave-not _ i (withTask i k t) h)
+
+  pub put-kept : i < 32 → placeOf (taskOf t i) ≡ placeOf k → taskOf t i .work ≡ k .work → put i k t ≡ withTask i k t
+  unfolding stays
+  put-kept l p w = put-stays l (both equals equals .passes (p, w))
 
 -- A rotation leaves the able queue and joins it again.
 pub rotate-is : (i : ℕ) (t : Table) → i < 32 → 0 < length (t .queues) → rotate i t ≡ join 0 i (leave 0 i (withTask i (withLeft (taskOf t i .quantum) (taskOf t i)) t))

@@ -10,17 +10,18 @@ ghost use Rattle.table.specs.Image.{Image, view, taskIn, taskCell, semap
 // How long an image is.
 pub const IMAGE_SIZE: usize = 1702;
 
-// The number of two bytes, and of four, the lowest first.
+// The number of two bytes, and of four, the lowest first. As a plain sum of its bytes, behind a function of its own, the compiler makes one
+// load of it.
 fn le16(a: u8, b: u8) -> u16
     ensures { λ r. ⌜ r ≡ wordAt 2 0 (a ∷ b ∷ []) ⌝ }
 {
     a as u16 + 256 * (b as u16)
 }
 
-fn le32(a: u8, b: u8, c: u8, d: u8) -> u32
+pub fn le32(a: u8, b: u8, c: u8, d: u8) -> u32
     ensures { λ r. ⌜ r ≡ wordAt 4 0 (a ∷ b ∷ c ∷ d ∷ []) ⌝ }
 {
-    a as u32 + 256 * (b as u32 + 256 * (c as u32 + 256 * (d as u32)))
+    a as u32 + 256 * (b as u32) + 65536 * (c as u32) + 16777216 * (d as u32)
 }
 
 fn read_task(b: &[u8], work: u8) -> rules::Task
@@ -71,6 +72,14 @@ pub fn get_task(s: &[u8], i: usize) -> rules::Task
     let e = a + 15;
     let work = s[i];
     read_task(&s[a..e], work)
+}
+
+// The working priority of task i.
+pub fn get_work(s: &[u8], i: usize) -> u8
+    requires { ⌜ (i < 32) × Image (now s) ⌝ }
+    ensures { λ r. ⌜ r ≡ taskOf (view (now (s .entry))) i .work ⌝ }
+{
+    s[i]
 }
 
 // The record of a free number.

@@ -1,9 +1,10 @@
-// How tasks change their places: `put_task` is the one door, `rotate` the one other move; and who runs.
+// How tasks change their places: `put` is the one door, in general and in three cases that need less; `rotate` is the one other move; and
+// who runs.
 ghost use mathlib.Core.Path.{_≡_};
-ghost use Prim.Native.Nat.{_<_};
+ghost use Prim.Native.Nat.{_≤_, _<_};
 ghost use lib.ListN.{getD};
 ghost use Rattle.queue.specs.Slots.{placeBehind};
-ghost use Rattle.rules.specs.Table.{queueOf, works, isAble, placeOf, firstIn};
+ghost use Rattle.rules.specs.Table.{taskOf, queueOf, works, isAble, placeOf, firstIn};
 ghost use Rattle.rules.specs.Move.{leave, join, stays, put, rotate, chosen};
 ghost use Rattle.table.specs.Image.{Image, view};
 use crate::cells;
@@ -95,6 +96,42 @@ pub fn put_task(s: &mut [u8], i: usize, k: rules::Task)
         return;
     }
     put_in(s, i, k);
+}
+
+// The same where place and working priority stay: no queue is touched.
+pub fn keep_task(s: &mut [u8], i: usize, k: rules::Task)
+    requires { ⌜ (placeOf (taskOf (view (now s)) i) ≡ placeOf k) × (taskOf (view (now s)) i .work ≡ k .work) × Image (now s) ⌝ }
+    ensures { λ _. ⌜ view (now (s .exit)) ≡ put i k (view (now (s .entry))) ⌝ }
+{
+    if 32 <= i {
+        return;
+    }
+    cells::set_task(s, i, k);
+}
+
+// The same where k stands in no queue: the task leaves its own.
+pub fn take_out(s: &mut [u8], i: usize, k: rules::Task)
+    requires { ⌜ (33 ≤ placeOf k) × Image (now s) ⌝ }
+    ensures { λ _. ⌜ view (now (s .exit)) ≡ put i k (view (now (s .entry))) ⌝ }
+{
+    if 32 <= i {
+        return;
+    }
+    let old = cells::get_task(s, i);
+    cells::set_task(s, i, k);
+    leave_queue(s, place_of(old), i);
+}
+
+// The same where the task stands in no queue: it goes behind its equals in that of k.
+pub fn bring_in(s: &mut [u8], i: usize, k: rules::Task)
+    requires { ⌜ (33 ≤ placeOf (taskOf (view (now s)) i)) × Image (now s) ⌝ }
+    ensures { λ _. ⌜ view (now (s .exit)) ≡ put i k (view (now (s .entry))) ⌝ }
+{
+    if 32 <= i {
+        return;
+    }
+    cells::set_task(s, i, k);
+    join_queue(s, place_of(k), i);
 }
 
 fn rotate_in(s: &mut [u8], i: usize)

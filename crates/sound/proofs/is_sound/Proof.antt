@@ -21,18 +21,15 @@ use Rattle.sound.proofs.works.are_works_right.Reads as are-works-right-
 slice-aggregate-are-tasks-right : tie.Need-slice-aggregate-are-tasks-right
 slice-aggregate-are-tasks-right c = search needs
 
-slice-aggregate-are-tasks-right-2 : tie.Need-slice-aggregate-are-tasks-right-2
-slice-aggregate-are-tasks-right-2 c = search needs
-
 are-tasks-right-requires : tie.Need-are-tasks-right-requires
 are-tasks-right-requires c κs = search needs
 
 returns : tie.Need-returns
 returns c =
-    let l = c .before .before .before .before .before .before .before .args .s .now in
+    let l = c .before .before .before .before .before .args .s .now in
     let t = view l in
-    let shaped = view-shaped l (c .before .before .before .before .before .before .before .pre) in
-    let tasks = c .before .before .before .are-tasks-right in
+    let shaped = view-shaped l (c .before .before .before .before .before .pre) in
+    let tasks = c .before .before .are-tasks-right in
     refused (sound-parts t shaped (tasks .ensures .tick)) (λ p. p .tasks) (answers (tasks .ensures .test) (tasks-right t)) (not-true (tasks .result) (c .if1 .taken))
 
 are-semaphores-right-requires : tie.Need-are-semaphores-right-requires
@@ -40,10 +37,10 @@ are-semaphores-right-requires c κs = search needs
 
 returns-2 : tie.Need-returns-2
 returns-2 c =
-    let l = c .before .before .before .before .before .before .before .before .before .args .s .now in
+    let l = c .before .before .before .before .before .before .before .args .s .now in
     let t = view l in
-    let shaped = view-shaped l (c .before .before .before .before .before .before .before .before .before .pre) in
-    let tasks = c .before .before .before .before .before .are-tasks-right in
+    let shaped = view-shaped l (c .before .before .before .before .before .before .before .pre) in
+    let tasks = c .before .before .before .before .are-tasks-right in
     refused (sound-parts t shaped (tasks .ensures .tick)) (λ p. p .semaphores) (answers (c .before .are-semaphores-right .ensures) (semaphores-right t)) (not-true (c .before .are-semaphores-right .result) (c .if2 .taken))
 
 are-mutexes-right-requires : tie.Need-are-mutexes-right-requires
@@ -51,56 +48,53 @@ are-mutexes-right-requires c κs = search needs
 
 returns-3 : tie.Need-returns-3
 returns-3 c =
-    let l = c .before .before .before .before .before .before .before .before .before .before .before .args .s .now in
+    let l = c .before .before .before .before .before .before .before .before .before .args .s .now in
     let t = view l in
-    let shaped = view-shaped l (c .before .before .before .before .before .before .before .before .before .before .before .pre) in
-    let tasks = c .before .before .before .before .before .before .before .are-tasks-right in
+    let shaped = view-shaped l (c .before .before .before .before .before .before .before .before .before .pre) in
+    let tasks = c .before .before .before .before .before .before .are-tasks-right in
     refused (sound-parts t shaped (tasks .ensures .tick)) (λ p. p .mutexes) (answers (c .before .are-mutexes-right .ensures) (mutexes-right t)) (not-true (c .before .are-mutexes-right .result) (c .if3 .taken))
 
 slice-aggregate-are-queues-right : tie.Need-slice-aggregate-are-queues-right
 slice-aggregate-are-queues-right c = search needs
 
 are-queues-right-requires : tie.Need-are-queues-right-requires
-are-queues-right-requires c κs = (c .before .before .before .before .before .before .before .before .before .before .before .before .pre, search needs, c .before .before .before .before .before .before .before .before .are-tasks-right .ensures .spotted (not-false (c .before .before .before .before .before .before .before .before .are-tasks-right .result) (c .before .before .before .before .before .if1 .left)))
+are-queues-right-requires c κs = (c .before .before .before .before .before .before .before .before .before .before .pre, search needs, c .before .before .before .before .before .before .before .are-tasks-right .ensures .spotted (not-false (c .before .before .before .before .before .before .before .are-tasks-right .result) (c .before .before .before .before .before .if1 .left)))
 
 returns-4 : tie.Need-returns-4
 returns-4 c =
-    let l = c .before .before .before .before .before .before .before .before .before .before .before .before .before .before .before .args .s .now in
+    let l = c .before .before .before .before .before .before .before .before .before .before .before .before .before .args .s .now in
     let t = view l in
-    let shaped = view-shaped l (c .before .before .before .before .before .before .before .before .before .before .before .before .before .before .before .pre) in
-    let tasks = c .before .before .before .before .before .before .before .before .before .before .before .are-tasks-right in
+    let shaped = view-shaped l (c .before .before .before .before .before .before .before .before .before .before .before .before .before .pre) in
+    let tasks = c .before .before .before .before .before .before .before .before .before .before .are-tasks-right in
     refused (sound-parts t shaped (tasks .ensures .tick)) (λ p. p .queued) (c .before .before .are-queues-right .ensures) (not-true (c .before .before .are-queues-right .result) (c .if4 .taken))
 
-slice-aggregate-are-works-right : tie.Need-slice-aggregate-are-works-right
-slice-aggregate-are-works-right c = search needs
-
 are-works-right-requires : tie.Need-are-works-right-requires
-are-works-right-requires c κs = (c .before .before .before .before .before .before .before .before .before .before .before .before .before .before .before .before .pre, search needs, c .before .before .before .before .before .before .before .before .before .before .before .before .are-tasks-right .ensures .based (not-false (c .before .before .before .before .before .before .before .before .before .before .before .before .are-tasks-right .result) (c .before .before .before .before .before .before .before .before .before .if1 .left)))
+are-works-right-requires c κs = search needs
 
 returns-5 : tie.Need-returns-5
 returns-5 c =
-    let l = c .before .before .before .before .before .before .before .before .before .before .before .before .before .before .before .before .before .before .before .args .s .now in
+    let l = c .before .before .before .before .before .before .before .before .before .before .before .before .before .before .before .args .s .now in
     let t = view l in
-    let shaped = view-shaped l (c .before .before .before .before .before .before .before .before .before .before .before .before .before .before .before .before .before .before .before .pre) in
-    let tasks = c .before .before .before .before .before .before .before .before .before .before .before .before .before .before .before .are-tasks-right in
-    refused (sound-parts t shaped (tasks .ensures .tick)) (λ p. p .worked) (answers (c .before .before .are-works-right .ensures) (works-right t shaped)) (not-true (c .before .before .are-works-right .result) (c .if5 .taken))
+    let shaped = view-shaped l (c .before .before .before .before .before .before .before .before .before .before .before .before .before .before .before .pre) in
+    let tasks = c .before .before .before .before .before .before .before .before .before .before .before .before .are-tasks-right in
+    refused (sound-parts t shaped (tasks .ensures .tick)) (λ p. p .worked) (answers (c .before .are-works-right .ensures) (works-right t shaped)) (not-true (c .before .are-works-right .result) (c .if5 .taken))
 
 is-run-right-requires : tie.Need-is-run-right-requires
 is-run-right-requires c κs = search needs
 
 returns-6 : tie.Need-returns-6
 returns-6 c =
-    let l = c .before .before .before .before .before .before .before .before .before .before .before .before .before .before .before .before .before .before .before .before .args .s .now in
+    let l = c .before .before .before .before .before .before .before .before .before .before .before .before .before .before .before .before .args .s .now in
     let t = view l in
-    let shaped = view-shaped l (c .before .before .before .before .before .before .before .before .before .before .before .before .before .before .before .before .before .before .before .before .pre) in
-    let tasks = c .before .before .before .before .before .before .before .before .before .before .before .before .before .before .before .before .are-tasks-right in
+    let shaped = view-shaped l (c .before .before .before .before .before .before .before .before .before .before .before .before .before .before .before .before .pre) in
+    let tasks = c .before .before .before .before .before .before .before .before .before .before .before .before .before .are-tasks-right in
     let run : Decides (c .is-run-right .result) (Parts t) = last (λ p. p .run) (answers (c .is-run-right .ensures) (run-right t)) λ r.
     record {
-      tasks = (answers (tasks .ensures .test) (tasks-right t)) .holds (not-false (tasks .result) (c .before .before .before .before .before .before .before .before .before .before .before .before .before .if1 .left));
-      semaphores = (answers (c .before .before .before .before .before .before .before .before .before .before .before .before .are-semaphores-right .ensures) (semaphores-right t)) .holds (not-false (c .before .before .before .before .before .before .before .before .before .before .before .before .are-semaphores-right .result) (c .before .before .before .before .before .before .before .before .before .before .before .if2 .left));
-      mutexes = (answers (c .before .before .before .before .before .before .before .before .before .before .are-mutexes-right .ensures) (mutexes-right t)) .holds (not-false (c .before .before .before .before .before .before .before .before .before .before .are-mutexes-right .result) (c .before .before .before .before .before .before .before .before .before .if3 .left));
-      queued = (c .before .before .before .before .before .before .before .are-queues-right .ensures) .holds (not-false (c .before .before .before .before .before .before .before .are-queues-right .result) (c .before .before .before .before .before .if4 .left));
-      worked = (answers (c .before .before .before .are-works-right .ensures) (works-right t shaped)) .holds (not-false (c .before .before .before .are-works-right .result) (c .before .if5 .left));
+      tasks = (answers (tasks .ensures .test) (tasks-right t)) .holds (not-false (tasks .result) (c .before .before .before .before .before .before .before .before .before .before .before .if1 .left));
+      semaphores = (answers (c .before .before .before .before .before .before .before .before .before .before .are-semaphores-right .ensures) (semaphores-right t)) .holds (not-false (c .before .before .before .before .before .before .before .before .before .before .are-semaphores-right .result) (c .before .before .before .before .before .before .before .before .before .if2 .left));
+      mutexes = (answers (c .before .before .before .before .before .before .before .before .are-mutexes-right .ensures) (mutexes-right t)) .holds (not-false (c .before .before .before .before .before .before .before .before .are-mutexes-right .result) (c .before .before .before .before .before .before .before .if3 .left));
+      queued = (c .before .before .before .before .before .are-queues-right .ensures) .holds (not-false (c .before .before .before .before .before .are-queues-right .result) (c .before .before .before .if4 .left));
+      worked = (answers (c .before .before .are-works-right .ensures) (works-right t shaped)) .holds (not-false (c .before .before .are-works-right .result) (c .before .if5 .left));
       run = r;
     } in
     same-test run (sound-parts t shaped (tasks .ensures .tick))
@@ -110,7 +104,6 @@ is-sound-spec =
     tie.close
     (tie.spec
     slice-aggregate-are-tasks-right
-    slice-aggregate-are-tasks-right-2
     are-tasks-right-requires
     returns
     are-semaphores-right-requires
@@ -120,7 +113,6 @@ is-sound-spec =
     slice-aggregate-are-queues-right
     are-queues-right-requires
     returns-4
-    slice-aggregate-are-works-right
     are-works-right-requires
     returns-5
     is-run-right-requires

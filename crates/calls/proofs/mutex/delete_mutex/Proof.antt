@@ -10,7 +10,7 @@ use Rattle.calls.proofs.mutex.delete_mutex.Lts as lts
 use Rattle.calls.proofs.ending.end_all.Reads as end-all-reads
 use Rattle.calls.proofs.mutex.delete_answer.Reads as delete-answer-reads
 use Rattle.calls.proofs.object.refuses.Reads as refuses-reads
-use Rattle.calls.proofs.walk.holder_of.Reads as holder-of-reads
+use Rattle.chain.proofs.holder_of.Reads as holder-of-reads
 use Rattle.calls.proofs.walk.walk_from.Reads as walk-from-reads
 use Rattle.table.proofs.cells.set_mutex.Reads as set-mutex-reads
 use Rattle.table.proofs.moves.choose.Reads as choose-reads

@@ -4,7 +4,7 @@ use Rattle.calls.proofs.mutex.wait_for.Tie as tie
 use Rattle.calls.proofs.mutex.wait_for.Reads as reads
 use Rattle.calls.proofs.mutex.wait_for.Lts as lts
 use Rattle.calls.proofs.object.block_on.Reads as block-on-reads
-use Rattle.calls.proofs.walk.holder_of.Reads as holder-of-reads
+use Rattle.chain.proofs.holder_of.Reads as holder-of-reads
 use Rattle.calls.proofs.walk.walk_from.Reads as walk-from-reads
 
 holder-of-requires : tie.Need-holder-of-requires

@@ -1,3 +1,5 @@
+use mathlib.Core.Path.{refl}
+use Rattle.calls.proofs.Places.{same-place, same-work}
 use native.Mathlib.Omega.{arith}
 use Rattle.rules.specs.Task.{changePriority}
 use Rattle.table.specs.Image.{view}
@@ -11,7 +13,7 @@ use Rattle.calls.proofs.task.priority_answer.Reads as priority-answer-r
 use Rattle.calls.proofs.walk.walk_from.Reads as walk-from-reads
 use Rattle.table.proofs.cells.task_at.Reads as task-at-reads
 use Rattle.table.proofs.moves.choose.Reads as choose-reads
-use Rattle.table.proofs.moves.put_task.Reads as put-task-reads
+use Rattle.table.proofs.moves.keep_task.Reads as keep-task-reads
 
 priority-answer-requires : tie.Need-priority-answer-requires
 priority-answer-requires c κs = search needs
@@ -34,8 +36,12 @@ cast-k c =
     let r = priority-room (a .i) (view (a .s .now)) (a .base) (done-says (e .before .priority-answer .ensures) (e .if1 .left)) in
     omega arith
 
-put-task-requires : tie.Need-put-task-requires
-put-task-requires c κs = search needs
+keep-task-requires : tie.Need-keep-task-requires
+keep-task-requires c κs =
+    let t = view (c .before .before .before .before .before .before .before .args .s .now) in
+    let i = c .before .before .before .before .before .before .before .args .i in
+    let e = c .before .task-at .ensures in
+    (same-place t i _ _ e refl refl refl refl, same-work t i e, search needs)
 
 walk-from-requires : tie.Need-walk-from-requires
 walk-from-requires c κs = search needs
@@ -61,7 +67,7 @@ change-priority-spec =
     returns
     task-at-requires
     cast-k
-    put-task-requires
+    keep-task-requires
     walk-from-requires
     choose-requires
     same-length-2

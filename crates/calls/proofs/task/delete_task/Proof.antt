@@ -1,3 +1,4 @@
+use Rattle.calls.proofs.Places.{free-nowhere}
 use Rattle.rules.specs.Task.{delete}
 use Rattle.table.specs.Image.{view}
 use Rattle.calls.proofs.TaskLaws.{delete-low, turned-away, carried-out}
@@ -7,11 +8,11 @@ use Rattle.calls.proofs.task.delete_task.Tie as tie
 use Rattle.calls.proofs.task.delete_task.Reads as reads
 use Rattle.calls.proofs.task.delete_task.Lts as lts
 use Rattle.calls.proofs.task.delete_answer.Reads as delete-answer-reads
-use Rattle.calls.proofs.walk.next_of.Reads as next-of-reads
+use Rattle.chain.proofs.next_of.Reads as next-of-reads
 use Rattle.calls.proofs.walk.walk_from.Reads as walk-from-reads
 use Rattle.table.proofs.cells.no_task.Reads as no-task-reads
 use Rattle.table.proofs.moves.choose.Reads as choose-reads
-use Rattle.table.proofs.moves.put_task.Reads as put-task-reads
+use Rattle.table.proofs.moves.take_out.Reads as take-out-reads
 
 delete-answer-requires : tie.Need-delete-answer-requires
 delete-answer-requires c κs = search needs
@@ -30,8 +31,8 @@ next-of-requires c κs = search needs
 no-task-requires : tie.Need-no-task-requires
 no-task-requires c κs = search needs
 
-put-task-requires : tie.Need-put-task-requires
-put-task-requires c κs = search needs
+take-out-requires : tie.Need-take-out-requires
+take-out-requires c κs = (free-nowhere _ (c .no-task .ensures), search needs)
 
 walk-from-requires : tie.Need-walk-from-requires
 walk-from-requires c κs = search needs
@@ -57,7 +58,7 @@ delete-task-spec =
     returns
     next-of-requires
     no-task-requires
-    put-task-requires
+    take-out-requires
     walk-from-requires
     choose-requires
     same-length-2

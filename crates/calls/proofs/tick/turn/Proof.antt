@@ -1,4 +1,5 @@
-use mathlib.Core.Path.{ap, _∙_}
+use Rattle.calls.proofs.Places.{same-place, same-work}
+use mathlib.Core.Path.{sym, ap, _∙_}
 use Rattle.rules.specs.declared.Task.{Task}
 use Rattle.rules.specs.Move.{put}
 use Rattle.table.specs.Image.{view}
@@ -13,7 +14,7 @@ use Rattle.calls.proofs.tick.one_less.Reads as one-less-reads
 use Rattle.calls.proofs.time.caller_of.Reads as caller-of-reads
 use Rattle.table.proofs.cells.get_running.Reads as get-running-reads
 use Rattle.table.proofs.cells.task_at.Reads as task-at-reads
-use Rattle.table.proofs.moves.put_task.Reads as put-task-reads
+use Rattle.table.proofs.moves.keep_task.Reads as keep-task-reads
 use Rattle.table.proofs.moves.rotate_task.Reads as rotate-task-reads
 
 caller-of-requires : tie.Need-caller-of-requires
@@ -39,8 +40,16 @@ returns c =
 one-less-requires : tie.Need-one-less-requires
 one-less-requires c κs = search needs
 
-put-task-requires : tie.Need-put-task-requires
-put-task-requires c κs = search needs
+keep-task-requires : tie.Need-keep-task-requires
+keep-task-requires c κs =
+    let t = view (c .before .before .before .before .before .before .before .before .before .before .before .args .s .now) in
+    let i = c .before .before .before .before .before .before .before .before .caller-of .result in
+    let e = c .before .before .before .before .before .before .task-at .ensures in
+    let o = c .one-less .ensures in (
+      same-place t i _ _ e (ap (λ (k : Task). k .used) o) (ap (λ (k : Task). k .state) o) (ap (λ (k : Task). k .suspend) o) (ap (λ (k : Task). k .object) o),
+      same-work t i e ∙ sym (ap (λ (k : Task). k .work) o),
+      search needs,
+    )
 
 task-at-requires-2 : tie.Need-task-at-requires-2
 task-at-requires-2 c κs = search needs
@@ -66,7 +75,7 @@ returns-2 c =
     let a = i .before .before .before .args in
     let t = c .before .before .before .before in
     let o = t .before in
-    let u = p .put-task .ensures ∙ ap (λ (x : Task). put (i .caller-of .result) x (view (a .s .now))) (p .before .one-less .ensures) in
+    let u = p .keep-task .ensures ∙ ap (λ (x : Task). put (i .caller-of .result) x (view (a .s .now))) (p .before .one-less .ensures) in
     c .before .before .rotate-task .ensures ∙ turned-over (view (a .s .now)) (i .caller-of .ensures .0) (r .get-running .ensures) (k .task-at .ensures) u (o .before .task-at2 .ensures) (o .is-over .ensures) (e .if1 .left) (t .if2 .taken)
 
 same-length-3 : tie.Need-same-length-3
@@ -81,7 +90,7 @@ returns-3 c =
     let i = k .before .before in
     let a = i .before .before .before .args in
     let o = c .before in
-    let u = p .put-task .ensures ∙ ap (λ (x : Task). put (i .caller-of .result) x (view (a .s .now))) (p .before .one-less .ensures) in
+    let u = p .keep-task .ensures ∙ ap (λ (x : Task). put (i .caller-of .result) x (view (a .s .now))) (p .before .one-less .ensures) in
     turned-on (view (a .s .now)) (i .caller-of .ensures .0) (r .get-running .ensures) (k .task-at .ensures) u (o .before .task-at2 .ensures) (o .is-over .ensures) (e .if1 .left) (c .if2 .left)
 
 pub turn-spec : {M : Type 1} → statement M
@@ -94,7 +103,7 @@ turn-spec =
     same-length
     returns
     one-less-requires
-    put-task-requires
+    keep-task-requires
     task-at-requires-2
     is-over-requires
     rotate-task-requires

@@ -1,3 +1,5 @@
+use mathlib.Core.Path.{refl}
+use Rattle.calls.proofs.Places.{delayed-nowhere}
 use Rattle.calls.proofs.ServiceLaws.{refuse, serve}
 use Rattle.rules.specs.Time.{delay}
 use borrow.Author.Needs.{needs}
@@ -11,7 +13,7 @@ use Rattle.calls.proofs.time.delay_answer.Reads as delay-answer-reads
 use Rattle.calls.proofs.time.mark_in.Reads as mark-in-reads
 use Rattle.table.proofs.cells.task_at.Reads as task-at-reads
 use Rattle.table.proofs.moves.choose.Reads as choose-reads
-use Rattle.table.proofs.moves.put_task.Reads as put-task-reads
+use Rattle.table.proofs.moves.take_out.Reads as take-out-reads
 
 delay-answer-requires : tie.Need-delay-answer-requires
 delay-answer-requires c κs = search needs
@@ -34,8 +36,8 @@ task-at-requires c κs = search needs
 mark-in-requires : tie.Need-mark-in-requires
 mark-in-requires c κs = search needs
 
-put-task-requires : tie.Need-put-task-requires
-put-task-requires c κs = search needs
+take-out-requires : tie.Need-take-out-requires
+take-out-requires c κs = (delayed-nowhere _ refl, search needs)
 
 choose-requires : tie.Need-choose-requires
 choose-requires c κs = search needs
@@ -60,7 +62,7 @@ delay-by-spec =
     caller-of-requires
     task-at-requires
     mark-in-requires
-    put-task-requires
+    take-out-requires
     choose-requires
     same-length-2
     returns-2)

@@ -1,30 +1,63 @@
 use borrow.Author.Needs.{needs}
-use mathlib.Core.Path.{_≡_, refl, sym, ap, _∙_}
+use mathlib.Core.Path.{sym, _∙_}
+use native.Mathlib.Omega.{arith}
 use Rattle.rules.specs.Move.{next, freshIn, putWork}
 use Rattle.table.specs.Image.{view}
-use Rattle.calls.proofs.Chains.{walk-none, walk-past, walk-turn}
+use Rattle.laws.specs.Walk.{walkOn-none, walkOn-past, walkOn-turn}
+use Rattle.chain.specs.Given.{given-work}
 use Prim.Native.Nat.{ℕ, _<_}
 use borrow.Fn.Kinds.{In}
 use borrow.Fn.PlainCycle.{Measures, is, falls, and}
 use Rattle.calls.proofs.walk.walk_on.Reads as walk-on
 use Rattle.calls.proofs.walk.walk_on.Kinds as walk-on-kinds
 use Rattle.calls.proofs.walk.+walk_on.Lts-walk_on as walk-on-lts
-use Rattle.calls.proofs.walk.fresh_of.Reads as fresh-of-reads
-use Rattle.calls.proofs.walk.next_of.Reads as next-of-reads
+use Rattle.calls.proofs.walk.pass_right.Reads as pass-right-reads
 use Rattle.calls.proofs.walk.put_work.Reads as put-work-reads
+use Rattle.chain.proofs.fresh_of.Reads as fresh-of-reads
+use Rattle.chain.proofs.next_of.Reads as next-of-reads
 use Rattle.calls.proofs.walk.+walk_on.{statement}
 use Rattle.calls.proofs.walk.+walk_on.Tie.{close}
 
-abbrev μ-walk-on : Measures 1 walk-on-kinds.ps ℕ
-μ-walk-on κs a = a .1 .1 .0
+abbrev μ-walk-on : Measures 2 walk-on-kinds.ps ℕ
+μ-walk-on κs a = a .1 .1 .1 .0
 
-abbrev walk-on-at : ℕ → In 1 walk-on-kinds.ps
-walk-on-at t = and 1 walk-on-kinds.ps (is 1 walk-on-kinds.ps μ-walk-on t) walk-on.Pre
+abbrev walk-on-at : ℕ → In 2 walk-on-kinds.ps
+walk-on-at t = and 2 walk-on-kinds.ps (is 2 walk-on-kinds.ps μ-walk-on t) walk-on.Pre
 
-abbrev walk-on-below : ℕ → In 1 walk-on-kinds.ps
-walk-on-below t = and 1 walk-on-kinds.ps (falls 1 walk-on-kinds.ps _<_ μ-walk-on t) walk-on.Pre
+abbrev walk-on-below : ℕ → In 2 walk-on-kinds.ps
+walk-on-below t = and 2 walk-on-kinds.ps (falls 2 walk-on-kinds.ps _<_ μ-walk-on t) walk-on.Pre
+
+walk-on-pass-right-requires : (t : ℕ) → walk-on-lts.Need-pass-right-requires (
+  pass-right-reads.Asked,
+  pass-right-reads.Learnt,
+  next-of-reads.Asked,
+  next-of-reads.Learnt,
+  fresh-of-reads.Asked,
+  fresh-of-reads.Learnt,
+  put-work-reads.Asked,
+  put-work-reads.Learnt,
+  walk-on-below t,
+  walk-on.Post,
+) (walk-on-at t) walk-on.Post
+walk-on-pass-right-requires t c κs = search needs
+
+walk-on-same-length : (t : ℕ) → walk-on-lts.Need-same-length (
+  pass-right-reads.Asked,
+  pass-right-reads.Learnt,
+  next-of-reads.Asked,
+  next-of-reads.Learnt,
+  fresh-of-reads.Asked,
+  fresh-of-reads.Learnt,
+  put-work-reads.Asked,
+  put-work-reads.Learnt,
+  walk-on-below t,
+  walk-on.Post,
+) (walk-on-at t) walk-on.Post
+walk-on-same-length t c = search needs
 
 walk-on-returns : (t : ℕ) → walk-on-lts.Need-returns (
+  pass-right-reads.Asked,
+  pass-right-reads.Learnt,
   next-of-reads.Asked,
   next-of-reads.Learnt,
   fresh-of-reads.Asked,
@@ -35,10 +68,27 @@ walk-on-returns : (t : ℕ) → walk-on-lts.Need-returns (
   walk-on.Post,
 ) (walk-on-at t) walk-on.Post
 walk-on-returns t c =
-    let a = c .before .before .args in
-    walk-none 32 next freshIn putWork (a .left) (a .i) (view (a .s .now)) (c .if1 .taken)
+    let a = c .before .before .before .before .before .args in
+    let w = c .before .pass-right in
+    sym (w .ensures .1 ∙ walkOn-none 32 next freshIn putWork (w .result .left) (w .result .task) (view (a .s .now)) (c .if1 .taken))
+
+walk-on-same-length-2 : (t : ℕ) → walk-on-lts.Need-same-length-2 (
+  pass-right-reads.Asked,
+  pass-right-reads.Learnt,
+  next-of-reads.Asked,
+  next-of-reads.Learnt,
+  fresh-of-reads.Asked,
+  fresh-of-reads.Learnt,
+  put-work-reads.Asked,
+  put-work-reads.Learnt,
+  walk-on-below t,
+  walk-on.Post,
+) (walk-on-at t) walk-on.Post
+walk-on-same-length-2 t c = search needs
 
 walk-on-returns-2 : (t : ℕ) → walk-on-lts.Need-returns-2 (
+  pass-right-reads.Asked,
+  pass-right-reads.Learnt,
   next-of-reads.Asked,
   next-of-reads.Learnt,
   fresh-of-reads.Asked,
@@ -49,10 +99,13 @@ walk-on-returns-2 : (t : ℕ) → walk-on-lts.Need-returns-2 (
   walk-on.Post,
 ) (walk-on-at t) walk-on.Post
 walk-on-returns-2 t c =
-    let a = c .before .before .before .args in
-    walk-past 32 next freshIn putWork (a .left) (a .i) (view (a .s .now)) (c .if2 .taken)
+    let a = c .before .before .before .before .before .before .args in
+    let w = c .before .before .pass-right in
+    sym (w .ensures .1 ∙ walkOn-past 32 next freshIn putWork (w .result .left) (w .result .task) (view (a .s .now)) (c .if2 .taken))
 
 walk-on-next-of-requires : (t : ℕ) → walk-on-lts.Need-next-of-requires (
+  pass-right-reads.Asked,
+  pass-right-reads.Learnt,
   next-of-reads.Asked,
   next-of-reads.Learnt,
   fresh-of-reads.Asked,
@@ -65,6 +118,8 @@ walk-on-next-of-requires : (t : ℕ) → walk-on-lts.Need-next-of-requires (
 walk-on-next-of-requires t c κs = search needs
 
 walk-on-fresh-of-requires : (t : ℕ) → walk-on-lts.Need-fresh-of-requires (
+  pass-right-reads.Asked,
+  pass-right-reads.Learnt,
   next-of-reads.Asked,
   next-of-reads.Learnt,
   fresh-of-reads.Asked,
@@ -77,6 +132,8 @@ walk-on-fresh-of-requires : (t : ℕ) → walk-on-lts.Need-fresh-of-requires (
 walk-on-fresh-of-requires t c κs = search needs
 
 walk-on-put-work-requires : (t : ℕ) → walk-on-lts.Need-put-work-requires (
+  pass-right-reads.Asked,
+  pass-right-reads.Learnt,
   next-of-reads.Asked,
   next-of-reads.Learnt,
   fresh-of-reads.Asked,
@@ -89,6 +146,8 @@ walk-on-put-work-requires : (t : ℕ) → walk-on-lts.Need-put-work-requires (
 walk-on-put-work-requires t c κs = search needs
 
 walk-on-sub-walk-on : (t : ℕ) → walk-on-lts.Need-sub-walk-on (
+  pass-right-reads.Asked,
+  pass-right-reads.Learnt,
   next-of-reads.Asked,
   next-of-reads.Learnt,
   fresh-of-reads.Asked,
@@ -101,6 +160,8 @@ walk-on-sub-walk-on : (t : ℕ) → walk-on-lts.Need-sub-walk-on (
 walk-on-sub-walk-on t c = search needs
 
 walk-on-walk-on-requires : (t : ℕ) → walk-on-lts.Need-walk-on-requires (
+  pass-right-reads.Asked,
+  pass-right-reads.Learnt,
   next-of-reads.Asked,
   next-of-reads.Learnt,
   fresh-of-reads.Asked,
@@ -110,9 +171,14 @@ walk-on-walk-on-requires : (t : ℕ) → walk-on-lts.Need-walk-on-requires (
   walk-on-below t,
   walk-on.Post,
 ) (walk-on-at t) walk-on.Post
-walk-on-walk-on-requires t c κs = search needs
+walk-on-walk-on-requires t c κs =
+    let a = c .before .before .before .before .before .before .before .before .before .before .before .before .before .before .before in
+    let w = c .before .before .before .before .before .before .before .before .before .before .before .pass-right in
+    (omega (arith, w .ensures .0, a .pre .0), (search needs, rw (c .before .before .before .put-work .ensures) (given-work (w .result .task) _ (omega arith) (a .pre .1 .1))))
 
-walk-on-same-length : (t : ℕ) → walk-on-lts.Need-same-length (
+walk-on-same-length-3 : (t : ℕ) → walk-on-lts.Need-same-length-3 (
+  pass-right-reads.Asked,
+  pass-right-reads.Learnt,
   next-of-reads.Asked,
   next-of-reads.Learnt,
   fresh-of-reads.Asked,
@@ -122,9 +188,11 @@ walk-on-same-length : (t : ℕ) → walk-on-lts.Need-same-length (
   walk-on-below t,
   walk-on.Post,
 ) (walk-on-at t) walk-on.Post
-walk-on-same-length t c = search needs
+walk-on-same-length-3 t c = search needs
 
 walk-on-returns-3 : (t : ℕ) → walk-on-lts.Need-returns-3 (
+  pass-right-reads.Asked,
+  pass-right-reads.Learnt,
   next-of-reads.Asked,
   next-of-reads.Learnt,
   fresh-of-reads.Asked,
@@ -135,14 +203,16 @@ walk-on-returns-3 : (t : ℕ) → walk-on-lts.Need-returns-3 (
   walk-on.Post,
 ) (walk-on-at t) walk-on.Post
 walk-on-returns-3 t c =
-    let e = c .before .before .before .before .before .before .before .before .before .before .before .before in
-    let a = e .before .before .before .args in
+    let a = c .before .before .before .before .before .before .before .before .before .before .before .before .before .before .before .before .before .before .args in
+    let w = c .before .before .before .before .before .before .before .before .before .before .before .before .before .before .pass-right in
     c .before .before .walk-on .ensures
     ∙ rw (c .before .before .before .before .before .before .put-work .ensures, c .before .before .before .before .before .before .before .before .before .before .next-of .ensures, c .before .before .before .before .before .before .before .before .fresh-of .ensures)
-    (walk-turn 32 next freshIn putWork (a .left) (a .i) (view (a .s .now)) (e .before .if1 .left) (e .if2 .left))
+    (sym (w .ensures .1 ∙ walkOn-turn 32 next freshIn putWork (w .result .left) (w .result .task) (view (a .s .now)) (c .before .before .before .before .before .before .before .before .before .before .before .before .before .if1 .left) (c .before .before .before .before .before .before .before .before .before .before .before .before .if2 .left)))
 
 pub +walk-on-spec : {M : Type 1} → statement M
 +walk-on-spec = close μ-walk-on λ t. walk-on-lts.spec (
+  pass-right-reads.Asked,
+  pass-right-reads.Learnt,
   next-of-reads.Asked,
   next-of-reads.Learnt,
   fresh-of-reads.Asked,
@@ -154,12 +224,15 @@ pub +walk-on-spec : {M : Type 1} → statement M
 )
     (walk-on-at t)
     walk-on.Post
+    (walk-on-pass-right-requires t)
+    (walk-on-same-length t)
     (walk-on-returns t)
+    (walk-on-same-length-2 t)
     (walk-on-returns-2 t)
     (walk-on-next-of-requires t)
     (walk-on-fresh-of-requires t)
     (walk-on-put-work-requires t)
     (walk-on-sub-walk-on t)
     (walk-on-walk-on-requires t)
-    (walk-on-same-length t)
+    (walk-on-same-length-3 t)
     (walk-on-returns-3 t)

@@ -1,5 +1,4 @@
-use borrow.Author.Tests.{eq-eqb, ne-eqb}
-use Rattle.sound.specs.Objects.{isHeldWell}
+use Rattle.sound.specs.Objects.{isHeldBy}
 use borrow.Author.Needs.{needs}
 use Rattle.sound.proofs.objects.is_held_well.Statement.{statement}
 use Rattle.sound.proofs.objects.is_held_well.Tie as tie
@@ -7,10 +6,6 @@ use Rattle.sound.proofs.objects.is_held_well.Reads as reads
 use Rattle.sound.proofs.objects.is_held_well.Lts as lts
 use Rattle.table.proofs.cells.task_at.Reads as task-at-reads
 use Rattle.table.proofs.moves.place_of.Reads as place-of-reads
-
-returns : tie.Need-returns
-unfolding isHeldWell
-returns c = rw (eq-eqb _ _ (c .before .if1 .taken))
 
 cast-task-at : tie.Need-cast-task-at
 cast-task-at c = search needs
@@ -27,18 +22,11 @@ place-of-requires c κs = search needs
 add-result : tie.Need-add-result
 add-result c = search needs
 
-returns-2 : tie.Need-returns-2
-unfolding isHeldWell
-returns-2 c = rw (ne-eqb _ _ (c .before .before .before .before .if1 .left), c .before .before .place-of .ensures, c .before .before .before .task-at .ensures)
+returns : tie.Need-returns
+unfolding isHeldBy
+returns c = rw (c .before .before .before .before .before .place-of .ensures, c .before .before .before .before .before .before .task-at .ensures)
 
 pub is-held-well-spec : {M : Type 1} → statement M
 is-held-well-spec =
     tie.close
-    (tie.spec
-    returns
-    cast-task-at
-    sub-task-at
-    task-at-requires
-    place-of-requires
-    add-result
-    returns-2)
+    (tie.spec cast-task-at sub-task-at task-at-requires place-of-requires add-result returns)

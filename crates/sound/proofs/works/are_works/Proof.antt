@@ -15,21 +15,22 @@ use Rattle.sound.proofs.works.are_works.Statement.{statement}
 use Rattle.sound.proofs.works.are_works.Tie as tie
 use Rattle.sound.proofs.works.are_works.Reads as reads
 use Rattle.sound.proofs.works.are_works.Lts as lts
+use Rattle.chain.proofs.fresh_of.Reads as fresh-of-reads
 
 abbrev Inv-loop : tie.InvT-loop
-Inv-loop s least all₀ i₀ all i = (i ≤ 32) × (all ≡ each i (λ j. eqb (taskOf (view s) j .work) (freshIn (view s) j)))
+Inv-loop s given all₀ i₀ all i = (i ≤ 32) × (all ≡ each i (λ j. eqb (taskOf (view s) j .work) (freshIn (view s) j)))
 
 abbrev μ-loop : tie.MeasureT-loop
-μ-loop s least all₀ i₀ all i = 32 - i
+μ-loop s given all₀ i₀ all i = 32 - i
 
 loop-holds : tie.Need-loop-holds Inv-loop μ-loop
 loop-holds c = (omega arith, sym (each-none _))
 
+fresh-of-requires : tie.Need-fresh-of-requires Inv-loop μ-loop
+fresh-of-requires c κs = search needs
+
 shared-slice-read-all : tie.Need-shared-slice-read-all Inv-loop μ-loop
 shared-slice-read-all c = search needs
-
-shared-slice-read-all-2 : tie.Need-shared-slice-read-all-2 Inv-loop μ-loop
-shared-slice-read-all-2 c = search needs
 
 add-i : tie.Need-add-i Inv-loop μ-loop
 add-i c = search needs
@@ -40,12 +41,11 @@ loop-less c = search needs
 loop-again : tie.Need-loop-again Inv-loop μ-loop
 unfolding taskIn
 loop-again c =
-    let l = c .before .before .before .before .args .s .now in
+    let l = c .before .before .before .before .before .before .args .s .now in
     let t = view l in
     let i = c .before .before .before .loop .i in
     let w : taskOf t i .work ≡ getD l i 0 = ap (λ (k : Task). k .work) (view-task l i (omega arith)) in
-    let f = c .before .before .before .before .pre .2 .at i (omega arith) in
-    (omega arith, rw (f, ← w) (each-and (λ j. eqb (taskOf t j .work) (freshIn t j)) i (c .before .before .before .loop .all) (c .before .before .before .loop .inv .1)))
+    (omega arith, rw (c .before .fresh-of .ensures, ← w) (each-and (λ j. eqb (taskOf t j .work) (freshIn t j)) i (c .before .before .before .loop .all) (c .before .before .before .loop .inv .1)))
 
 returns : tie.Need-returns Inv-loop μ-loop
 unfolding isWorked
@@ -60,8 +60,8 @@ are-works-spec =
     Inv-loop
     μ-loop
     loop-holds
+    fresh-of-requires
     shared-slice-read-all
-    shared-slice-read-all-2
     add-i
     loop-less
     loop-again

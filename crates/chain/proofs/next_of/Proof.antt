@@ -1,0 +1,36 @@
+use mathlib.Core.Path.{sym, ap, _∙_}
+use Rattle.rules.specs.declared.Task.{Task}
+use Rattle.rules.specs.Move.{holderOf}
+use Rattle.chain.proofs.Holders.{next-some, next-none}
+use Rattle.table.specs.Image.{view}
+use borrow.Author.Needs.{needs}
+use Rattle.chain.proofs.next_of.Statement.{statement}
+use Rattle.chain.proofs.next_of.Tie as tie
+use Rattle.chain.proofs.next_of.Reads as reads
+use Rattle.chain.proofs.next_of.Lts as lts
+use Rattle.chain.proofs.holder_of.Reads as holder-of-reads
+use Rattle.table.proofs.cells.task_at.Reads as task-at-reads
+
+task-at-requires : tie.Need-task-at-requires
+task-at-requires c κs = search needs
+
+cast-holder-of : tie.Need-cast-holder-of
+cast-holder-of c = search needs
+
+holder-of-requires : tie.Need-holder-of-requires
+holder-of-requires c κs = search needs
+
+returns : tie.Need-returns
+returns c =
+    let a = c .before .before .before .before .before .before .args in
+    let e = c .before .before .before .before .task-at .ensures in
+    c .holder-of .ensures ∙ ap (λ (x : Task). holderOf (view (a .s .now)) (x .object)) e ∙ next-some (view (a .s .now)) (a .j) (ap (λ (x : Task). x .state) (sym e) ∙ c .before .before .if1 .taken)
+
+returns-2 : tie.Need-returns-2
+returns-2 c =
+    let a = c .before .before .before .before .args in
+    next-none (view (a .s .now)) (a .j) (λ z. c .if1 .left (ap (λ (x : Task). x .state) (c .before .before .task-at .ensures) ∙ z))
+
+pub next-of-spec : {M : Type 1} → statement M
+next-of-spec =
+    tie.close (tie.spec task-at-requires cast-holder-of holder-of-requires returns returns-2)

@@ -1,0 +1,88 @@
+// The chain of holders: who waits for whom, and the working priorities of all tasks worked out together.
+ghost use mathlib.Core.Path.{_≡_};
+ghost use Prim.Native.Nat.{_+_, _<_};
+ghost use Rattle.rules.specs.Move.{holderOf, next, baseOf, freshIn};
+ghost use Rattle.table.specs.Image.{Image, view};
+ghost use Rattle.chain.specs.Carry.{Settled};
+ghost use Rattle.chain.specs.Given.{NoneGiven, Given};
+use table::cells;
+
+// The task that holds mutex m; 32, which is no task, for none.
+pub fn holder_of(s: &[u8], m: usize) -> usize
+    requires { ⌜ Image (now s) ⌝ }
+    ensures { λ r. ⌜ r ≡ holderOf (view (now (s .entry))) m ⌝ }
+{
+    let x = cells::mutex_at(s, m);
+    if x.holder == 0 {
+        return 32;
+    }
+    x.holder as usize - 1
+}
+
+// The holder of the mutex for which task j waits, or no task.
+pub fn next_of(s: &[u8], j: usize) -> usize
+    requires { ⌜ Image (now s) ⌝ }
+    ensures { λ r. ⌜ r ≡ next (view (now (s .entry))) j ⌝ }
+{
+    let k = cells::task_at(s, j);
+    if k.state == 3 {
+        return holder_of(s, k.object as usize);
+    }
+    32
+}
+
+fn base_of(s: &[u8], j: usize) -> u8
+    requires { ⌜ (j < 32) × Image (now s) ⌝ }
+    ensures { λ r. ⌜ r ≡ baseOf (view (now (s .entry))) j ⌝ }
+{
+    let k = cells::get_task(s, j);
+    k.base
+}
+
+// The base priority of task i goes along its chain, to each task whose own is greater and that was given a greater one. Where one has
+// none greater, those behind it have none either, or get one no greater in their turn; so a ring ends too.
+fn carry(s: &[u8], given: &mut [u8], i: usize)
+    requires { ⌜ (i < 32) × Image (now s) × Settled 32 (next (view (now s))) (baseOf (view (now s))) i (now given) ⌝ }
+    ensures { λ _. ⌜ Settled 32 (next (view (now (s .entry)))) (baseOf (view (now (s .entry)))) (i + 1) (now (given .exit)) ⌝ }
+{
+    let base = base_of(s, i);
+    let mut j = next_of(s, i);
+    while j < 32 {
+        let v = given[j];
+        if v <= base {
+            return;
+        }
+        let own = base_of(s, j);
+        if own <= base {
+            return;
+        }
+        given[j] = base;
+        j = next_of(s, j);
+    }
+}
+
+// What each task is given by those from which a chain of waits leads to it: the smallest base priority of theirs that is of use.
+// The bytes lent are 255, which is of use to none.
+pub fn carry_all(s: &[u8], given: &mut [u8])
+    requires { ⌜ Image (now s) × NoneGiven (now given) ⌝ }
+    ensures { λ _. ⌜ Given (view (now (s .entry))) (now (given .exit)) ⌝ }
+{
+    let mut i = 0;
+    while i < 32 {
+        carry(s, given, i);
+        i += 1;
+    }
+}
+
+// The working priority of task i, worked out afresh, where `given` has what it is given.
+pub fn fresh_of(s: &[u8], given: &[u8], i: usize) -> u8
+    requires { ⌜ (i < 32) × Image (now s) × Given (view (now s)) (now given) ⌝ }
+    ensures { λ r. ⌜ r ≡ freshIn (view (now (s .entry))) i ⌝ }
+{
+    let own = base_of(s, i);
+    let v = given[i];
+    if v < own {
+        return v;
+    }
+    own
+}

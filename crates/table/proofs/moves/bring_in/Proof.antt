@@ -1,0 +1,45 @@
+use mathlib.Core.Path.{sym}
+use native.Mathlib.Omega.{arith}
+use Rattle.table.specs.Image.{view}
+use Rattle.table.proofs.Places.{put-not, put-into}
+use borrow.Author.Needs.{needs}
+use Rattle.table.proofs.moves.bring_in.Statement.{statement}
+use Rattle.table.proofs.moves.bring_in.Tie as tie
+use Rattle.table.proofs.moves.bring_in.Reads as reads
+use Rattle.table.proofs.moves.bring_in.Lts as lts
+use Rattle.table.proofs.cells.set_task.Reads as set-task-reads
+use Rattle.table.proofs.moves.join_queue.Reads as join-queue-reads
+use Rattle.table.proofs.moves.place_of.Reads as place-of-reads
+
+returns : tie.Need-returns
+returns c =
+    let a = c .before .before .args in
+    sym (put-not (a .i) (a .k) (view (a .s .now)) (c .if1 .taken))
+
+set-task-requires : tie.Need-set-task-requires
+set-task-requires c κs = search needs
+
+place-of-requires : tie.Need-place-of-requires
+place-of-requires c κs = search needs
+
+join-queue-requires : tie.Need-join-queue-requires
+join-queue-requires c κs = search needs
+
+same-length : tie.Need-same-length
+same-length c = search needs
+
+returns-2 : tie.Need-returns-2
+returns-2 c =
+    let a = c .before .before .before .before .before .before .before .before .before .before .before in
+    cc (put-into (a .args .i) (a .args .k) (view (a .args .s .now)) (omega arith) (a .pre .0))
+
+pub bring-in-spec : {M : Type 1} → statement M
+bring-in-spec =
+    tie.close
+    (tie.spec
+    returns
+    set-task-requires
+    place-of-requires
+    join-queue-requires
+    same-length
+    returns-2)
