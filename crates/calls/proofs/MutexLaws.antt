@@ -1,31 +1,15 @@
 -- The calls on mutexes, case by case. Assumes nothing.
-use mathlib.Core.Path.{_≡_, refl}
-use mathlib.Core.Bool.{true, false, not}
+use mathlib.Core.Path.{_≡_}
+use mathlib.Core.Bool.{true, false}
 use Prim.Native.Nat.{ℕ, _+_, _-_, _≤_, _<_}
-use lib.Dec.{eqb, leb, ltb}
-use borrow.Author.Tests.{leb-false, eq-eqb, ne-eqb, lt-ltb, le-ltb}
+use borrow.Author.Tests.{eq-eqb, ne-eqb, lt-ltb, le-ltb}
 use Rattle.rules.specs.Table.{Table, taskOf, mutexOf, heldBy, withMutex}
-use Rattle.rules.specs.Step.{changes}
 use Rattle.rules.specs.Move.{put, walk, holderOf, ready}
 use Rattle.rules.specs.Time.{callerOf}
 use Rattle.rules.specs.Object.{blocked, taken}
-use Rattle.rules.specs.Mutex.{isOwn, takeAnswer, mutexWaitAnswer, mutexWait, handed, released, mutexPost}
-use Rattle.calls.proofs.ServiceLaws.{passed}
+use Rattle.rules.specs.Mutex.{isOwn, mutexWait, handed, released, mutexPost}
 
 module _ (i : ℕ) (t : Table) where
-  -- ---- a wait that nests has room
-
-  take-room : (block : ℕ) → changes (takeAnswer i block t) ≡ true → isOwn i t ≡ true → (mutexOf t i .holder ≡ 0 → ⊥) → mutexOf t i .nesting < 250
-  take-room block h own held = leb-false 250 _ (passed (leb 250 (mutexOf t i .nesting)) 10 0 refl (rw (own, ne-eqb _ _ held) at h) .0)
-
-  pub wait-room : (block : ℕ) → changes (mutexWaitAnswer i block t) ≡ true → isOwn i t ≡ true → (mutexOf t i .holder ≡ 0 → ⊥) → mutexOf t i .nesting < 250
-  unfolding mutexWaitAnswer
-  wait-room block h =
-      let runs = passed (eqb (t .running) 0) 6 _ refl h .1 in
-      let used = passed (leb 16 i) 1 _ refl runs .1 in
-      let yes-no = passed (not (eqb (mutexOf t i .used) 1)) 2 _ refl used .1 in
-      take-room block (passed (ltb 1 block) 4 _ refl yes-no .1)
-
   -- ---- a wait: it takes, it nests, or it blocks
 
   pub wait-takes : (limit : ℕ) → mutexOf t i .holder ≡ 0 → taken (withMutex i (heldBy (callerOf t + 1) 1) t) ≡ mutexWait i limit t

@@ -1,16 +1,16 @@
--- What the services share: a call that is refused or done, and what a test on the way says of an answer. Assumes nothing.
+-- What the services share: a call that is refused or done, what goes on was accepted, and the tests on the way. Assumes nothing.
 use mathlib.Core.Path.{_≡_, refl, sym, _∙_}
-use mathlib.Core.Bool.{Bool, true, false, cond, not, _&&_, true≢false}
+use mathlib.Core.Bool.{Bool, true, false, cond, not, _&&_}
 use mathlib.Core.List.{List}
-use Prim.Native.Nat.{ℕ, zero, suc, _≤_, _<_}
+use Prim.Native.Nat.{ℕ, zero, suc, _≤_}
 use native.Mathlib.Nat.{not-suc-le-zero}
-use lib.Dec.{eqb, leb}
-use borrow.Author.Tests.{eq-eqb, ne-eqb, leb-false, not-true, not-false}
-use Rattle.rules.specs.Table.{Table, taskOf, semaphoreOf, isAble}
+use lib.Dec.{eqb}
+use borrow.Author.Tests.{eq-eqb, ne-eqb, not-true, not-false}
+use Rattle.rules.specs.Table.{Table, taskOf, isAble}
 use Rattle.rules.specs.Move.{peerBelow}
-use Rattle.rules.specs.Time.{byCaller}
-use Rattle.rules.specs.Semaphore.{semaphorePostAnswer}
-use Rattle.rules.specs.Step.{changes}
+use Rattle.rules.specs.Step.{changes, answerTo}
+use Rattle.rules.specs.declared.Call.{Call}
+use Rattle.laws.specs.Accepted.{Accepted, answers}
 use Rattle.table.specs.Image.{view}
 use Rattle.calls.specs.Served.{Served}
 use Rattle.calls.proofs.Ends.{refused, served}
@@ -27,6 +27,10 @@ module _ {n r : ℕ} {b : Bool} (e : r ≡ n) (f : b ≡ not (changes r)) where
   pub goes-on : b ≡ false → changes n ≡ true
   goes-on h = rw e at (not-false (changes r) (sym f ∙ h))
 
+-- A call that goes on was accepted, with all that this tells of its numbers.
+pub accepted : (c : Call) (t : Table) → changes (answerTo c t) ≡ true → Accepted c t
+accepted c t h = answers false t c .holds h
+
 -- ---- a test on x, which is y in the table
 
 module _ {x y n : ℕ} (e : x ≡ y) where
@@ -35,28 +39,6 @@ module _ {x y n : ℕ} (e : x ≡ y) where
 
   pub misses : (x ≡ n → ⊥) → eqb y n ≡ false
   misses h = ne-eqb y n (λ g. h (e ∙ g))
-
--- ---- what is known of a call that goes on: each guard is passed, and its number is within range
-
-pub passed : (b : Bool) (x answer : ℕ) → changes x ≡ false → changes (cond b x answer) ≡ true → (b ≡ false) × (changes answer ≡ true)
-passed true x answer e h = absurd (true≢false (sym h ∙ e))
-passed false x answer e h = (refl, h)
-
-pub in-range : (count o answer : ℕ) → changes (cond (leb count o) 1 answer) ≡ true → o < count
-in-range count o answer h = leb-false count o (passed (leb count o) 1 answer refl h .0)
-
--- the same of a call that wants a caller
-pub caller-in-range : (count o answer : ℕ) (t : Table) → changes (byCaller t (cond (leb count o) 1 answer)) ≡ true → o < count
-caller-in-range count o answer t h = in-range count o answer (passed (eqb (t .running) 0) 6 (cond (leb count o) 1 answer) refl h .1)
-
--- a semaphore that is posted has room for one more
-pub post-room : (s : ℕ) (t : Table) → changes (semaphorePostAnswer s t) ≡ true → semaphoreOf t s .count < 4294967295
-unfolding semaphorePostAnswer
-post-room s t h =
-    let x = semaphoreOf t s in
-    let used = passed (leb 16 s) 1 _ refl h .1 in
-    let room = passed (not (eqb (x .used) 1)) 2 _ refl used .1 in
-    leb-false 4294967295 (x .count) (passed (leb 4294967295 (x .count)) 11 0 refl room .0)
 
 -- ---- the scan for a peer: one turn, and its end
 

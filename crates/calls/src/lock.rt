@@ -4,6 +4,7 @@ ghost use Rattle.rules.specs.Move.{chosen};
 ghost use Rattle.rules.specs.Lock.{lockAnswer, lock, unlockAnswer, unlock};
 ghost use Rattle.table.specs.Image.{Image, view};
 ghost use Rattle.calls.specs.Served.{Served};
+use crate::object;
 use table::cells;
 use table::moves;
 
@@ -22,13 +23,13 @@ pub fn lock_on(s: &mut [u8]) -> u8
     ensures { λ r. ⌜ Served (lockAnswer (view (now (s .entry)))) (chosen (lock (view (now (s .entry))))) r (now (s .entry)) (now (s .exit)) ⌝ }
 {
     let n = lock_answer(s);
-    if !(n == 0) {
+    if object::refuses(n) {
         return n;
     }
     let d = cells::get_depth(s);
     cells::set_depth(s, d + 1);
     moves::choose(s);
-    0
+    n
 }
 
 fn unlock_answer(s: &[u8]) -> u8
@@ -46,11 +47,11 @@ pub fn unlock_once(s: &mut [u8]) -> u8
     ensures { λ r. ⌜ Served (unlockAnswer (view (now (s .entry)))) (chosen (unlock (view (now (s .entry))))) r (now (s .entry)) (now (s .exit)) ⌝ }
 {
     let n = unlock_answer(s);
-    if !(n == 0) {
+    if object::refuses(n) {
         return n;
     }
     let d = cells::get_depth(s);
     cells::set_depth(s, d - 1);
     moves::choose(s);
-    0
+    n
 }

@@ -1,4 +1,4 @@
-// What the calls on semaphores and on mutexes share.
+// What the calls on semaphores and on mutexes share, and the test for a refusal, which is every call's.
 ghost use mathlib.Core.Path.{_≡_};
 ghost use mathlib.Core.Bool.{not};
 ghost use Prim.Native.Nat.{_-_, _<_};

@@ -6,6 +6,7 @@ ghost use Rattle.rules.specs.Move.{chosen, isRunning};
 ghost use Rattle.rules.specs.Task.{isLocked, created, holdsBelow, createAnswer, create, deleteAnswer, delete, priorityAnswer, changePriority, suspendAnswer, suspend, resumeAnswer, resume};
 ghost use Rattle.table.specs.Image.{Image, view};
 ghost use Rattle.calls.specs.Served.{Served};
+use crate::object;
 use crate::walk;
 use table::cells;
 use table::moves;
@@ -60,13 +61,13 @@ pub fn create_task(s: &mut [u8], i: u32, base: u32, quantum: u32) -> u8
     ensures { λ r. ⌜ Served (createAnswer i base quantum (view (now (s .entry)))) (chosen (create i base quantum (view (now (s .entry))))) r (now (s .entry)) (now (s .exit)) ⌝ }
 {
     let n = create_answer(s, i, base, quantum);
-    if !(n == 0) {
+    if object::refuses(n) {
         return n;
     }
     let k = new_task(base as u8, quantum as u16);
     moves::put_task(s, i as usize, k);
     moves::choose(s);
-    0
+    n
 }
 
 // Whether task i holds a mutex.
@@ -110,14 +111,14 @@ pub fn delete_task(s: &mut [u8], i: u32) -> u8
     ensures { λ r. ⌜ Served (deleteAnswer i (view (now (s .entry)))) (chosen (delete i (view (now (s .entry))))) r (now (s .entry)) (now (s .exit)) ⌝ }
 {
     let n = delete_answer(s, i);
-    if !(n == 0) {
+    if object::refuses(n) {
         return n;
     }
     let holder = chain::next_of(s, i as usize);
     moves::take_out(s, i as usize, cells::no_task());
     walk::walk_from(s, holder);
     moves::choose(s);
-    0
+    n
 }
 
 fn priority_answer(s: &[u8], i: u32, base: u32) -> u8
@@ -142,7 +143,7 @@ pub fn change_priority(s: &mut [u8], i: u32, base: u32) -> u8
     ensures { λ r. ⌜ Served (priorityAnswer i base (view (now (s .entry)))) (chosen (changePriority i base (view (now (s .entry))))) r (now (s .entry)) (now (s .exit)) ⌝ }
 {
     let n = priority_answer(s, i, base);
-    if !(n == 0) {
+    if object::refuses(n) {
         return n;
     }
     let mut k = cells::task_at(s, i as usize);
@@ -150,7 +151,7 @@ pub fn change_priority(s: &mut [u8], i: u32, base: u32) -> u8
     moves::keep_task(s, i as usize, k);
     walk::walk_from(s, i as usize);
     moves::choose(s);
-    0
+    n
 }
 
 fn suspend_answer(s: &[u8], i: u32) -> u8
@@ -178,14 +179,14 @@ pub fn suspend_task(s: &mut [u8], i: u32) -> u8
     ensures { λ r. ⌜ Served (suspendAnswer i (view (now (s .entry)))) (chosen (suspend i (view (now (s .entry))))) r (now (s .entry)) (now (s .exit)) ⌝ }
 {
     let n = suspend_answer(s, i);
-    if !(n == 0) {
+    if object::refuses(n) {
         return n;
     }
     let mut k = cells::task_at(s, i as usize);
     k.suspend = k.suspend + 1;
     moves::put_task(s, i as usize, k);
     moves::choose(s);
-    0
+    n
 }
 
 fn resume_answer(s: &[u8], i: u32) -> u8
@@ -210,12 +211,12 @@ pub fn resume_task(s: &mut [u8], i: u32) -> u8
     ensures { λ r. ⌜ Served (resumeAnswer i (view (now (s .entry)))) (chosen (resume i (view (now (s .entry))))) r (now (s .entry)) (now (s .exit)) ⌝ }
 {
     let n = resume_answer(s, i);
-    if !(n == 0) {
+    if object::refuses(n) {
         return n;
     }
     let mut k = cells::task_at(s, i as usize);
     k.suspend = k.suspend - 1;
     moves::put_task(s, i as usize, k);
     moves::choose(s);
-    0
+    n
 }

@@ -36,7 +36,7 @@ Accepted Yield t = (t .running ≢ 0) × (t .depth ≡ 0) × (hasPeer (callerOf 
 Accepted (Delay n) t = (t .running ≢ 0) × (n ≢ 0) × (t .depth ≡ 0)
 Accepted (DelayResume i) t = (i < taskCount) × (taskOf t i .used ≡ 1) × (taskOf t i .state ≡ delayed)
 Accepted Lock t = t .depth < mostNested
-Accepted Unlock t = Unit {0}
+Accepted Unlock t = t .depth ≢ 0
 Accepted Tick t = Unit {0}
 Accepted (SemaphoreCreate s n) t = (s < semaphoreCount) × (semaphoreOf t s .used ≢ 1)
 Accepted (SemaphoreDelete s force) t = s < semaphoreCount
@@ -163,7 +163,7 @@ module _ (interrupt : Bool) (t : Table) where
   answers (Delay n) = past equals refl delayByNone λ c. past equals refl noTicks λ d. unless equals refl lockedDelay λ z. accept (c, d, z)
   answers (DelayResume i) = on-it (delayResume {i = i}) λ l u. unless equals refl notDelayed λ e. accept (l, u, e)
   answers Lock = past at-most refl nestedLock λ (n : mostNested ≤ t .depth → ⊥). accept (omega arith)
-  answers Unlock = past equals refl unlocked λ d. accept tt
+  answers Unlock = past equals refl unlocked λ d. accept d
   answers Tick = accept tt
   answers (SemaphoreCreate s n) = new-one (aSemaphore {s = s}) λ l u. accept (l, u)
   answers (SemaphoreDelete s force) =

@@ -2,10 +2,11 @@
 use mathlib.Core.Path.{_≡_, refl, subst}
 use mathlib.Core.Bool.{Bool}
 use mathlib.Core.List.{List, [], _∷_}
-use Prim.Native.Nat.{ℕ, zero, suc, _≤_, _<_, _^_}
+use Prim.Native.Nat.{ℕ, zero, suc, _+_, _≤_, _<_, _^_}
 use native.Mathlib.Nat.{one-le-pow, pow-suc, pow-le-pow-right}
 use native.Mathlib.Omega.{arith}
 use lib.ListN.{length, getD, take, drop}
+use lib.Seq.{getD-drop}
 use borrow.Author.Tests.{leb-true}
 use Rattle.queue.specs.Order.{All, none, more}
 use Rattle.rules.specs.Sizes.{ticksRound}
@@ -13,7 +14,7 @@ use Rattle.rules.specs.Table.{Table, freshTable}
 use Rattle.rules.specs.Sound.{Sound}
 use Rattle.rules.specs.Step.{Bounded, serve, step}
 use Rattle.rules.specs.Port.{plainKind, ofKind, reading}
-use Rattle.rules.specs.Tape.{little, widths, numbers, bodyLength, callIn, printedOf, printed, tape}
+use Rattle.rules.specs.Tape.{Bytes, little, widths, numbers, bodyLength, callIn, printedOf, printed, tape}
 use Rattle.rules.specs.declared.Call.{Call}
 use Rattle.rules.specs.declared.Reading.{Reading}
 use Rattle.rules.specs.declared.Reading.the-variants.{Says, Unknown}
@@ -22,24 +23,21 @@ use Rattle.laws.specs.Sounds.{serve-sound, step-serve, fresh-sound}
 
 -- ---- numbers made of bytes
 
--- Each number of the list is a byte.
-abbrev pub Bytes : List ℕ → Type 0
-Bytes l = All (λ v. v < 256) l
+bytes-behind : (n : ℕ) (l : List ℕ) → Bytes l → Bytes (drop n l)
+bytes-behind n l b j = rw (getD-drop n l j 0) (b (n + j))
 
-bytes-behind : {l : List ℕ} (n : ℕ) → Bytes l → Bytes (drop n l)
-bytes-behind zero b = b
-bytes-behind (suc n) none = none
-bytes-behind (suc n) (more p b) = bytes-behind n b
-
-little-below : {l : List ℕ} (w : ℕ) → Bytes l → little (take w l) < 256 ^ w
+little-below : (w : ℕ) (l : List ℕ) → Bytes l → little (take w l) < 256 ^ w
 unfolding little
-little-below zero b = omega arith
-little-below (suc w) none = one-le-pow (suc w) 256 (omega arith)
-little-below (suc w) (more p b) = let h = little-below w b in rw (pow-suc 256 w) (omega arith)
+little-below zero l b = omega arith
+little-below (suc w) [] b = one-le-pow (suc w) 256 (omega arith)
+little-below (suc w) (x ∷ l) b =
+    let p : x < 256 = b 0 in
+    let h = little-below w l (λ j. b (suc j)) in
+    rw (pow-suc 256 w) (omega arith)
 
 -- A number of at most 4 bytes has 32 bits.
-pub little-small : {w : ℕ} {l : List ℕ} → w ≤ 4 → Bytes l → little (take w l) < ticksRound
-little-small {w} h b = let most : 256 ^ w ≤ 256 ^ 4 = pow-le-pow-right (omega arith) h in omega (arith, little-below w b)
+pub little-small : {w : ℕ} (l : List ℕ) → w ≤ 4 → Bytes l → little (take w l) < ticksRound
+little-small {w} l h b = let most : 256 ^ w ≤ 256 ^ 4 = pow-le-pow-right (omega arith) h in omega (arith, little-below w l b)
 
 -- ---- the call that is read
 
@@ -52,11 +50,11 @@ unfolding widths
 widths-narrow k = search (either Narrow, none, more, leb-true) depth 20
 
 -- so each has 32 bits.
-numbers-small : {ws l : List ℕ} → Narrow ws → Bytes l → (i : ℕ) → getD (numbers ws l) i 0 < ticksRound
+numbers-small : {ws : List ℕ} (l : List ℕ) → Narrow ws → Bytes l → (i : ℕ) → getD (numbers ws l) i 0 < ticksRound
 unfolding numbers
-numbers-small none b i = omega arith
-numbers-small (more h a) b zero = little-small h b
-numbers-small (more {x = w} h a) b (suc i) = numbers-small a (bytes-behind w b) i
+numbers-small l none b i = omega arith
+numbers-small l (more h a) b zero = little-small l h b
+numbers-small l (more {x = w} h a) b (suc i) = numbers-small (drop w l) a (bytes-behind w l b) i
 
 -- The numbers of the call that a reading says have 32 bits.
 abbrev BoundedIn : Reading → Type 0
@@ -67,15 +65,15 @@ kind-bounded : (k : ℕ) {a b c : ℕ} (interrupt : Bool) → a < ticksRound →
 unfolding ofKind Bounded
 kind-bounded k interrupt p q r = search (either BoundedIn) depth 30
 
-reading-bounded : (kind : ℕ) {body : List ℕ} → Bytes body → BoundedIn (callIn kind body)
+reading-bounded : (kind : ℕ) (body : List ℕ) → Bytes body → BoundedIn (callIn kind body)
 unfolding callIn reading
-reading-bounded kind b =
-    let small = numbers-small (widths-narrow (plainKind kind)) b in
+reading-bounded kind body b =
+    let small = numbers-small body (widths-narrow (plainKind kind)) b in
     kind-bounded (plainKind kind) _ (small 0) (small 1) (small 2)
 
 -- A call that is read from bytes has numbers of 32 bits.
-pub call-bounded : (kind : ℕ) {body : List ℕ} {c : Call} {interrupt : Bool} → Bytes body → callIn kind body ≡ Says c interrupt → Bounded c
-call-bounded kind b e = subst BoundedIn e (reading-bounded kind b)
+pub call-bounded : (kind : ℕ) (body : List ℕ) {c : Call} {interrupt : Bool} → Bytes body → callIn kind body ≡ Says c interrupt → Bounded c
+call-bounded kind body b e = subst BoundedIn e (reading-bounded kind body b)
 
 -- ---- the tape
 
@@ -90,8 +88,9 @@ pub printed-served : {t : Table} → Sound t → (n : ℕ) (l : List ℕ) → By
 unfolding printed
 printed-served s zero l b = refl
 printed-served s (suc n) [] b = refl
-printed-served s (suc n) (kind ∷ body) (more p b) =
-    one-served s _ (λ u h. printed-served h n (drop (bodyLength kind) body) (bytes-behind (bodyLength kind) b)) (callIn kind body) (reading-bounded kind b)
+printed-served s (suc n) (kind ∷ body) b =
+    let rest : Bytes body = λ j. b (suc j) in
+    one-served s _ (λ u h. printed-served h n (drop (bodyLength kind) body) (bytes-behind (bodyLength kind) body rest)) (callIn kind body) (reading-bounded kind body rest)
 
 -- So the tape of the rules is what the services print, which do not test the table.
 pub tape-served : (l : List ℕ) → Bytes l → tape l ≡ printed serve (length l) freshTable l

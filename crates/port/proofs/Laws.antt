@@ -14,7 +14,7 @@ use Rattle.rules.specs.declared.Call.{Call}
 use Rattle.rules.specs.declared.Reading.{Reading}
 use Rattle.rules.specs.declared.Reading.the-variants.{Unknown}
 use Rattle.table.specs.Image.{Image, imageSize, view}
-use Rattle.table.specs.Lossless.{Bytes}
+use Rattle.rules.specs.Tape.{Bytes}
 use Rattle.table.specs.Written.{imageOf, view-image}
 use Rattle.calls.specs.Served.{Served}
 use Rattle.port.specs.Step.{sized, plainly, outcomeOf, serveOf, tested, bytesAfter, Gives}

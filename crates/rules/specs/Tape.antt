@@ -1,7 +1,7 @@
 -- "The call tape and its printer".
 use mathlib.Core.Bool.{Bool, true, false, cond}
 use mathlib.Core.List.{List, [], _∷_, _++_}
-use Prim.Native.Nat.{ℕ, zero, suc, _+_, _-_, _*_, _/_, _%_}
+use Prim.Native.Nat.{ℕ, zero, suc, _+_, _-_, _*_, _/_, _%_, _<_}
 use lib.Dec.{eqb, ltb}
 use lib.ListN.{length, getD, take, drop}
 use Rattle.rules.specs.Table.{Table, freshTable}
@@ -10,6 +10,10 @@ use Rattle.rules.specs.Port.{plainKind, reading}
 use Rattle.rules.specs.declared.Call.{Call}
 use Rattle.rules.specs.declared.Reading.{Reading}
 use Rattle.rules.specs.declared.Reading.the-variants.{Says, Unknown}
+
+-- Each number of the list is a byte.
+abbrev pub Bytes : List ℕ → Type 0
+Bytes l = (j : ℕ) → getD l j 0 < 256
 
 -- ---- from bytes to calls: "one byte of kind, then a body whose length the kind fixes. Numbers above a byte are little-endian."
 

@@ -9,13 +9,11 @@ use lib.ListN.{getD, List·getD-eq-default}
 use lib.Seq.{ext-getD}
 use Rattle.rules.specs.declared.Task.{Task}
 use Rattle.rules.specs.Table.{Table, taskOf, semaphoreOf, mutexOf, queueOf}
+use Rattle.rules.specs.Tape.{Bytes}
 use Rattle.table.specs.Parts.{part, tabulate, wordAt, bytesOf}
 use Rattle.table.specs.Image.{Image, cellAt, semaphoreAt, mutexAt, queueAt, tickAt, depthAt, runningAt, taskIn, taskCell, semaphoreIn, semaphoreCell, mutexIn, mutexCell, view}
 use Rattle.table.specs.PartLaws.{lt-or-le, part-at, part-most, tabulate-at, tabulate-same}
 use Rattle.table.specs.Shape.{view-task, view-semaphore, view-mutex, view-queue, view-tick, view-depth, view-running}
-
-abbrev pub Bytes : List ℕ → Type 0
-Bytes l = (j : ℕ) → getD l j 0 < 256
 
 -- The n numbers from a on, one by one.
 spelled : ℕ → ℕ → List ℕ → List ℕ

@@ -19,7 +19,8 @@ use Rattle.table.specs.Image.{Image, Fitting, cellAt, semaphoreAt, mutex
 use Rattle.table.specs.Words.{word-back, task-back, semaphore-back, mutex-back}
 use Rattle.table.specs.Pieces.{Stands, here, past, stands, part-there, number-there, joined-long, piece-there, cells-long, cell-there, tabulate-back, all-at, all-by, all-append, all-joined, all-cells}
 use Rattle.table.specs.Shape.{view-task, view-semaphore, view-mutex, view-queue, view-shaped}
-use Rattle.table.specs.Lossless.{Bytes, part-bytes, lossless}
+use Rattle.rules.specs.Tape.{Bytes}
+use Rattle.table.specs.Lossless.{part-bytes, lossless}
 
 -- The working priorities, the cells of the tasks, of the semaphores and of the mutexes, the queues, the tick counter, and
 -- the lock depth with the running task.

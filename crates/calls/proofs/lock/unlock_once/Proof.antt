@@ -1,13 +1,17 @@
+use native.Mathlib.Nat.{pos-of-ne-zero}
 use native.Mathlib.Omega.{arith}
 use Rattle.rules.specs.Lock.{unlock}
 use Rattle.table.specs.Image.{view}
-use Rattle.calls.proofs.TaskLaws.{unlock-low, unlock-room, turned-away, carried-out, done-says}
+use Rattle.rules.specs.Step.{answerTo}
+use Rattle.rules.specs.declared.Call.the-variants.{Unlock}
+use Rattle.calls.proofs.ServiceLaws.{refuse, serve, goes-on, accepted}
 use borrow.Author.Needs.{needs}
 use Rattle.calls.proofs.lock.unlock_once.Statement.{statement}
 use Rattle.calls.proofs.lock.unlock_once.Tie as tie
 use Rattle.calls.proofs.lock.unlock_once.Reads as reads
 use Rattle.calls.proofs.lock.unlock_once.Lts as lts
 use Rattle.calls.proofs.lock.unlock_answer.Reads as unlock-answer-reads
+use Rattle.calls.proofs.object.refuses.Reads as refuses-reads
 use Rattle.table.proofs.cells.get_depth.Reads as get-depth-reads
 use Rattle.table.proofs.cells.set_depth.Reads as set-depth-reads
 use Rattle.table.proofs.moves.choose.Reads as choose-reads
@@ -15,22 +19,24 @@ use Rattle.table.proofs.moves.choose.Reads as choose-reads
 unlock-answer-requires : tie.Need-unlock-answer-requires
 unlock-answer-requires c κs = search needs
 
+refuses-requires : tie.Need-refuses-requires
+refuses-requires c κs = search needs
+
 same-length : tie.Need-same-length
 same-length c = search needs
 
 returns : tie.Need-returns
-returns c =
-    let a = c .before .before .before .before .args in
-    turned-away (c .before .unlock-answer .ensures) (unlock-low (view (a .s .now))) (c .if1 .taken)
+returns c = refuse (c .before .before .unlock-answer .ensures) (c .before .refuses .ensures) (c .if1 .taken)
 
 get-depth-requires : tie.Need-get-depth-requires
 get-depth-requires c κs = search needs
 
 sub-set-depth : tie.Need-sub-set-depth
+unfolding answerTo
 sub-set-depth c =
-    let e = c .before .before .before in
-    let a = e .before .before .before .before .args in
-    let r = unlock-room (view (a .s .now)) (done-says (e .before .unlock-answer .ensures) (e .if1 .left)) in
+    let b = c .before .before .before in
+    let a = b .before .before .before .before .before .args in
+    let r = pos-of-ne-zero (accepted Unlock (view (a .s .now)) (goes-on (b .before .before .unlock-answer .ensures) (b .before .refuses .ensures) (b .if1 .left))) in
     omega (arith, c .before .get-depth .ensures)
 
 set-depth-requires : tie.Need-set-depth-requires
@@ -45,14 +51,15 @@ same-length-2 c = search needs
 returns-2 : tie.Need-returns-2
 unfolding unlock
 returns-2 c =
-    let e = c .before .before .before .before .before .before .before .before .before .before in
-    carried-out (e .before .unlock-answer .ensures) (e .if1 .left) (cc)
+    let b = c .before .before .before .before .before .before .before .before .before .before in
+    serve (b .before .before .unlock-answer .ensures) (b .before .refuses .ensures) (b .if1 .left) (cc)
 
 pub unlock-once-spec : {M : Type 1} → statement M
 unlock-once-spec =
     tie.close
     (tie.spec
     unlock-answer-requires
+    refuses-requires
     same-length
     returns
     get-depth-requires

@@ -1,7 +1,10 @@
 use Prim.Native.Nat.{_<_}
 use native.Mathlib.Omega.{arith}
-use Rattle.rules.specs.Mutex.{mutexAbortAnswer, mutexAbort}
-use Rattle.calls.proofs.ServiceLaws.{refuse, serve, goes-on, in-range}
+use Rattle.rules.specs.Mutex.{mutexAbort}
+use Rattle.rules.specs.Step.{answerTo}
+use Rattle.rules.specs.declared.Call.the-variants.{MutexAbort}
+use Rattle.table.specs.Image.{view}
+use Rattle.calls.proofs.ServiceLaws.{refuse, serve, goes-on, accepted}
 use borrow.Author.Needs.{needs}
 use Rattle.calls.proofs.mutex.abort_mutex.Statement.{statement}
 use Rattle.calls.proofs.mutex.abort_mutex.Tie as tie
@@ -30,12 +33,12 @@ add-abort-first : tie.Need-add-abort-first
 add-abort-first c = search needs
 
 abort-first-requires : tie.Need-abort-first-requires
-unfolding mutexAbortAnswer
+unfolding answerTo
 abort-first-requires c κs =
     let e = c .before in
     let r = e .before in
     let a = r .before .before .before .before .args in
-    let h : a .i < 16 = in-range 16 (a .i) _ (goes-on (r .before .abort-answer .ensures) (r .refuses .ensures) (e .if1 .left)) in
+    let h : a .i < 16 = accepted (MutexAbort (a .i)) (view (a .s .now)) (goes-on (r .before .abort-answer .ensures) (r .refuses .ensures) (e .if1 .left)) .0 in
     (omega arith, r .before .before .before .before .pre)
 
 choose-requires : tie.Need-choose-requires

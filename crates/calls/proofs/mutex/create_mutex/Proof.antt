@@ -1,5 +1,8 @@
-use Rattle.rules.specs.Mutex.{mutexCreateAnswer, mutexCreate}
-use Rattle.calls.proofs.ServiceLaws.{refuse, serve, goes-on, in-range}
+use Rattle.rules.specs.Mutex.{mutexCreate}
+use Rattle.rules.specs.Step.{answerTo}
+use Rattle.rules.specs.declared.Call.the-variants.{MutexCreate}
+use Rattle.table.specs.Image.{view}
+use Rattle.calls.proofs.ServiceLaws.{refuse, serve, goes-on, accepted}
 use borrow.Author.Needs.{needs}
 use Rattle.calls.proofs.mutex.create_mutex.Statement.{statement}
 use Rattle.calls.proofs.mutex.create_mutex.Tie as tie
@@ -29,12 +32,13 @@ held-by-requires : tie.Need-held-by-requires
 held-by-requires c κs = search needs
 
 set-mutex-requires : tie.Need-set-mutex-requires
-unfolding mutexCreateAnswer
+unfolding answerTo
 set-mutex-requires c κs =
     let e = c .before .before in
     let r = e .before in
     let a = r .before .before .before .before .args in
-    (in-range 16 (a .i) _ (goes-on (r .before .create-answer .ensures) (r .refuses .ensures) (e .if1 .left)), r .before .before .before .before .pre)
+    let h = accepted (MutexCreate (a .i)) (view (a .s .now)) (goes-on (r .before .create-answer .ensures) (r .refuses .ensures) (e .if1 .left)) in
+    (h .0, r .before .before .before .before .pre)
 
 choose-requires : tie.Need-choose-requires
 choose-requires c κs = search needs

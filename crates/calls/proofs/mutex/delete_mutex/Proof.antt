@@ -1,7 +1,10 @@
 use Prim.Native.Nat.{_<_}
 use native.Mathlib.Omega.{arith}
-use Rattle.rules.specs.Mutex.{mutexDeleteAnswer, mutexDelete}
-use Rattle.calls.proofs.ServiceLaws.{refuse, serve, goes-on, in-range}
+use Rattle.rules.specs.Mutex.{mutexDelete}
+use Rattle.rules.specs.Step.{answerTo}
+use Rattle.rules.specs.declared.Call.the-variants.{MutexDelete}
+use Rattle.table.specs.Image.{view}
+use Rattle.calls.proofs.ServiceLaws.{refuse, serve, goes-on, accepted}
 use borrow.Author.Needs.{needs}
 use Rattle.calls.proofs.mutex.delete_mutex.Statement.{statement}
 use Rattle.calls.proofs.mutex.delete_mutex.Tie as tie
@@ -36,21 +39,22 @@ add-end-all : tie.Need-add-end-all
 add-end-all c = search needs
 
 end-all-requires : tie.Need-end-all-requires
-unfolding mutexDeleteAnswer
+unfolding answerTo
 end-all-requires c κs =
     let e = c .before .before .before in
     let r = e .before in
     let a = r .before .before .before .before .args in
-    let h : a .i < 16 = in-range 16 (a .i) _ (goes-on (r .before .delete-answer .ensures) (r .refuses .ensures) (e .if1 .left)) in
+    let h : a .i < 16 = accepted (MutexDelete (a .i) (a .force)) (view (a .s .now)) (goes-on (r .before .delete-answer .ensures) (r .refuses .ensures) (e .if1 .left)) in
     (omega arith, r .before .before .before .before .pre)
 
 set-mutex-requires : tie.Need-set-mutex-requires
-unfolding mutexDeleteAnswer
+unfolding answerTo
 set-mutex-requires c κs =
     let e = c .before .before .before .before .before .before .before in
     let r = e .before in
     let a = r .before .before .before .before .args in
-    (in-range 16 (a .i) _ (goes-on (r .before .delete-answer .ensures) (r .refuses .ensures) (e .if1 .left)), search needs)
+    let h = accepted (MutexDelete (a .i) (a .force)) (view (a .s .now)) (goes-on (r .before .delete-answer .ensures) (r .refuses .ensures) (e .if1 .left)) in
+    (h, search needs)
 
 walk-from-requires : tie.Need-walk-from-requires
 walk-from-requires c κs = search needs

@@ -1,6 +1,7 @@
-use Rattle.rules.specs.Mutex.{mutexPostAnswer}
+use Rattle.rules.specs.Step.{answerTo}
+use Rattle.rules.specs.declared.Call.the-variants.{MutexPost}
 use Rattle.table.specs.Image.{view}
-use Rattle.calls.proofs.ServiceLaws.{refuse, serve, goes-on, caller-in-range}
+use Rattle.calls.proofs.ServiceLaws.{refuse, serve, goes-on, accepted}
 use borrow.Author.Needs.{needs}
 use Rattle.calls.proofs.mutex.post_mutex.Statement.{statement}
 use Rattle.calls.proofs.mutex.post_mutex.Tie as tie
@@ -26,12 +27,13 @@ returns c =
     refuse (r .before .post-answer .ensures) (r .refuses .ensures) (c .if1 .taken)
 
 post-change-requires : tie.Need-post-change-requires
-unfolding mutexPostAnswer
+unfolding answerTo
 post-change-requires c κs =
     let e = c .before in
     let r = e .before in
     let a = r .before .before .before .before .args in
-    (caller-in-range 16 (a .i) _ (view (a .s .now)) (goes-on (r .before .post-answer .ensures) (r .refuses .ensures) (e .if1 .left)), r .before .before .before .before .pre)
+    let h = accepted (MutexPost (a .i)) (view (a .s .now)) (goes-on (r .before .post-answer .ensures) (r .refuses .ensures) (e .if1 .left)) in
+    (h .1, r .before .before .before .before .pre)
 
 choose-requires : tie.Need-choose-requires
 choose-requires c κs = search needs

@@ -1,7 +1,8 @@
-use Rattle.rules.specs.Mutex.{mutexWaitAnswer}
+use borrow.Author.Tests.{eqb-true}
+use Rattle.rules.specs.Step.{answerTo}
+use Rattle.rules.specs.declared.Call.the-variants.{MutexWait}
 use Rattle.table.specs.Image.{view}
-use Rattle.calls.proofs.ServiceLaws.{refuse, serve, goes-on, caller-in-range}
-use Rattle.calls.proofs.MutexLaws.{wait-room}
+use Rattle.calls.proofs.ServiceLaws.{refuse, serve, goes-on, accepted}
 use borrow.Author.Needs.{needs}
 use Rattle.calls.proofs.mutex.wait_mutex.Statement.{statement}
 use Rattle.calls.proofs.mutex.wait_mutex.Tie as tie
@@ -27,13 +28,13 @@ returns c =
     refuse (r .before .wait-answer .ensures) (r .refuses .ensures) (c .if1 .taken)
 
 wait-change-requires : tie.Need-wait-change-requires
-unfolding mutexWaitAnswer
+unfolding answerTo
 wait-change-requires c κs =
     let e = c .before in
     let r = e .before in
     let a = r .before .before .before .before .args in
-    let go = goes-on (r .before .wait-answer .ensures) (r .refuses .ensures) (e .if1 .left) in
-    (caller-in-range 16 (a .i) _ (view (a .s .now)) go, r .before .before .before .before .pre, wait-room (a .i) (view (a .s .now)) (a .block) go)
+    let h = accepted (MutexWait (a .i) (a .block) (a .limit)) (view (a .s .now)) (goes-on (r .before .wait-answer .ensures) (r .refuses .ensures) (e .if1 .left)) in
+    (h .1, r .before .before .before .before .pre, λ own _. h .3 (eqb-true _ _ own))
 
 choose-requires : tie.Need-choose-requires
 choose-requires c κs = search needs

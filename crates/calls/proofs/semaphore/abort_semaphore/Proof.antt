@@ -1,6 +1,9 @@
 use Prim.Native.Nat.{_<_}
-use Rattle.rules.specs.Semaphore.{semaphoreAbortAnswer, semaphoreAbort}
-use Rattle.calls.proofs.ServiceLaws.{refuse, serve, goes-on, in-range}
+use Rattle.rules.specs.Semaphore.{semaphoreAbort}
+use Rattle.rules.specs.Step.{answerTo}
+use Rattle.rules.specs.declared.Call.the-variants.{SemaphoreAbort}
+use Rattle.table.specs.Image.{view}
+use Rattle.calls.proofs.ServiceLaws.{refuse, serve, goes-on, accepted}
 use borrow.Author.Needs.{needs}
 use Rattle.calls.proofs.semaphore.abort_semaphore.Statement.{statement}
 use Rattle.calls.proofs.semaphore.abort_semaphore.Tie as tie
@@ -27,12 +30,11 @@ add-abort-first : tie.Need-add-abort-first
 add-abort-first c = search needs
 
 abort-first-requires : tie.Need-abort-first-requires
-unfolding semaphoreAbortAnswer
+unfolding answerTo
 abort-first-requires c κs =
     let b = c .before in
     let a = b .before .before .before .before .before .args in
-    let h = goes-on (b .before .before .abort-answer .ensures) (b .before .refuses .ensures) (b .if1 .left) in
-    let i : a .i < 16 = in-range 16 (a .i) _ h in
+    let h : a .i < 16 = accepted (SemaphoreAbort (a .i)) (view (a .s .now)) (goes-on (b .before .before .abort-answer .ensures) (b .before .refuses .ensures) (b .if1 .left)) .0 in
     search needs
 
 choose-requires : tie.Need-choose-requires

@@ -1,5 +1,8 @@
-use Rattle.rules.specs.Semaphore.{semaphoreCreateAnswer, semaphoreCreate}
-use Rattle.calls.proofs.ServiceLaws.{refuse, serve, goes-on, in-range}
+use Rattle.rules.specs.Semaphore.{semaphoreCreate}
+use Rattle.rules.specs.Step.{answerTo}
+use Rattle.rules.specs.declared.Call.the-variants.{SemaphoreCreate}
+use Rattle.table.specs.Image.{view}
+use Rattle.calls.proofs.ServiceLaws.{refuse, serve, goes-on, accepted}
 use borrow.Author.Needs.{needs}
 use Rattle.calls.proofs.semaphore.create_semaphore.Statement.{statement}
 use Rattle.calls.proofs.semaphore.create_semaphore.Tie as tie
@@ -23,12 +26,12 @@ returns : tie.Need-returns
 returns c = refuse (c .before .before .create-answer .ensures) (c .before .refuses .ensures) (c .if1 .taken)
 
 set-semaphore-requires : tie.Need-set-semaphore-requires
-unfolding semaphoreCreateAnswer
+unfolding answerTo
 set-semaphore-requires c κs =
     let b = c .before in
     let a = b .before .before .before .before .before .args in
-    let h = goes-on (b .before .before .create-answer .ensures) (b .before .refuses .ensures) (b .if1 .left) in
-    (in-range 16 (a .i) _ h, search needs)
+    let h = accepted (SemaphoreCreate (a .i) (a .count)) (view (a .s .now)) (goes-on (b .before .before .create-answer .ensures) (b .before .refuses .ensures) (b .if1 .left)) in
+    (h .0, search needs)
 
 choose-requires : tie.Need-choose-requires
 choose-requires c κs = search needs

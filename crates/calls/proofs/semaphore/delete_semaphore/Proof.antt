@@ -1,6 +1,9 @@
 use Prim.Native.Nat.{_<_}
-use Rattle.rules.specs.Semaphore.{semaphoreDeleteAnswer, semaphoreDelete}
-use Rattle.calls.proofs.ServiceLaws.{refuse, serve, goes-on, in-range}
+use Rattle.rules.specs.Semaphore.{semaphoreDelete}
+use Rattle.rules.specs.Step.{answerTo}
+use Rattle.rules.specs.declared.Call.the-variants.{SemaphoreDelete}
+use Rattle.table.specs.Image.{view}
+use Rattle.calls.proofs.ServiceLaws.{refuse, serve, goes-on, accepted}
 use borrow.Author.Needs.{needs}
 use Rattle.calls.proofs.semaphore.delete_semaphore.Statement.{statement}
 use Rattle.calls.proofs.semaphore.delete_semaphore.Tie as tie
@@ -28,21 +31,20 @@ add-end-all : tie.Need-add-end-all
 add-end-all c = search needs
 
 end-all-requires : tie.Need-end-all-requires
-unfolding semaphoreDeleteAnswer
+unfolding answerTo
 end-all-requires c κs =
     let b = c .before in
     let a = b .before .before .before .before .before .args in
-    let h = goes-on (b .before .before .delete-answer .ensures) (b .before .refuses .ensures) (b .if1 .left) in
-    let i : a .i < 16 = in-range 16 (a .i) _ h in
+    let h : a .i < 16 = accepted (SemaphoreDelete (a .i) (a .force)) (view (a .s .now)) (goes-on (b .before .before .delete-answer .ensures) (b .before .refuses .ensures) (b .if1 .left)) in
     search needs
 
 set-semaphore-requires : tie.Need-set-semaphore-requires
-unfolding semaphoreDeleteAnswer
+unfolding answerTo
 set-semaphore-requires c κs =
     let b = c .before .before .before .before .before in
     let a = b .before .before .before .before .before .args in
-    let h = goes-on (b .before .before .delete-answer .ensures) (b .before .refuses .ensures) (b .if1 .left) in
-    (in-range 16 (a .i) _ h, search needs)
+    let h = accepted (SemaphoreDelete (a .i) (a .force)) (view (a .s .now)) (goes-on (b .before .before .delete-answer .ensures) (b .before .refuses .ensures) (b .if1 .left)) in
+    (h, search needs)
 
 choose-requires : tie.Need-choose-requires
 choose-requires c κs = search needs

@@ -1,6 +1,8 @@
+use Rattle.rules.specs.Semaphore.{semaphorePost}
+use Rattle.rules.specs.Step.{answerTo}
+use Rattle.rules.specs.declared.Call.the-variants.{SemaphorePost}
 use Rattle.table.specs.Image.{view}
-use Rattle.rules.specs.Semaphore.{semaphorePost, semaphorePostAnswer}
-use Rattle.calls.proofs.ServiceLaws.{refuse, serve, goes-on, in-range, post-room}
+use Rattle.calls.proofs.ServiceLaws.{refuse, serve, goes-on, accepted}
 use borrow.Author.Needs.{needs}
 use Rattle.calls.proofs.semaphore.post_semaphore.Statement.{statement}
 use Rattle.calls.proofs.semaphore.post_semaphore.Tie as tie
@@ -24,12 +26,12 @@ returns : tie.Need-returns
 returns c = refuse (c .before .before .post-answer .ensures) (c .before .refuses .ensures) (c .if1 .taken)
 
 post-change-requires : tie.Need-post-change-requires
-unfolding semaphorePostAnswer
+unfolding answerTo
 post-change-requires c κs =
     let b = c .before in
     let a = b .before .before .before .before .before .args in
-    let h = goes-on (b .before .before .post-answer .ensures) (b .before .refuses .ensures) (b .if1 .left) in
-    (in-range 16 (a .i) _ h, search needs, post-room (a .i) (view (a .s .now)) h)
+    let h = accepted (SemaphorePost (a .i)) (view (a .s .now)) (goes-on (b .before .before .post-answer .ensures) (b .before .refuses .ensures) (b .if1 .left)) in
+    (h .0, search needs, h .1)
 
 choose-requires : tie.Need-choose-requires
 choose-requires c κs = search needs

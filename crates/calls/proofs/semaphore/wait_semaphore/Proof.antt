@@ -1,6 +1,8 @@
+use Rattle.rules.specs.Semaphore.{semaphoreWait}
+use Rattle.rules.specs.Step.{answerTo}
+use Rattle.rules.specs.declared.Call.the-variants.{SemaphoreWait}
 use Rattle.table.specs.Image.{view}
-use Rattle.rules.specs.Semaphore.{semaphoreWaitAnswer, semaphoreWait}
-use Rattle.calls.proofs.ServiceLaws.{refuse, serve, goes-on, caller-in-range}
+use Rattle.calls.proofs.ServiceLaws.{refuse, serve, goes-on, accepted}
 use borrow.Author.Needs.{needs}
 use Rattle.calls.proofs.semaphore.wait_semaphore.Statement.{statement}
 use Rattle.calls.proofs.semaphore.wait_semaphore.Tie as tie
@@ -24,12 +26,12 @@ returns : tie.Need-returns
 returns c = refuse (c .before .before .wait-answer .ensures) (c .before .refuses .ensures) (c .if1 .taken)
 
 wait-change-requires : tie.Need-wait-change-requires
-unfolding semaphoreWaitAnswer
+unfolding answerTo
 wait-change-requires c κs =
     let b = c .before in
     let a = b .before .before .before .before .before .args in
-    let h = goes-on (b .before .before .wait-answer .ensures) (b .before .refuses .ensures) (b .if1 .left) in
-    (caller-in-range 16 (a .i) _ (view (a .s .now)) h, search needs)
+    let h = accepted (SemaphoreWait (a .i) (a .block) (a .limit)) (view (a .s .now)) (goes-on (b .before .before .wait-answer .ensures) (b .before .refuses .ensures) (b .if1 .left)) in
+    (h .1, search needs)
 
 choose-requires : tie.Need-choose-requires
 choose-requires c κs = search needs

@@ -1,12 +1,12 @@
 use Rattle.calls.proofs.Places.{free-nowhere}
 use Rattle.rules.specs.Task.{delete}
-use Rattle.table.specs.Image.{view}
-use Rattle.calls.proofs.TaskLaws.{delete-low, turned-away, carried-out}
+use Rattle.calls.proofs.ServiceLaws.{refuse, serve}
 use borrow.Author.Needs.{needs}
 use Rattle.calls.proofs.task.delete_task.Statement.{statement}
 use Rattle.calls.proofs.task.delete_task.Tie as tie
 use Rattle.calls.proofs.task.delete_task.Reads as reads
 use Rattle.calls.proofs.task.delete_task.Lts as lts
+use Rattle.calls.proofs.object.refuses.Reads as refuses-reads
 use Rattle.calls.proofs.task.delete_answer.Reads as delete-answer-reads
 use Rattle.chain.proofs.next_of.Reads as next-of-reads
 use Rattle.calls.proofs.walk.walk_from.Reads as walk-from-reads
@@ -17,13 +17,14 @@ use Rattle.table.proofs.moves.take_out.Reads as take-out-reads
 delete-answer-requires : tie.Need-delete-answer-requires
 delete-answer-requires c κs = search needs
 
+refuses-requires : tie.Need-refuses-requires
+refuses-requires c κs = search needs
+
 same-length : tie.Need-same-length
 same-length c = search needs
 
 returns : tie.Need-returns
-returns c =
-    let a = c .before .before .before .before .args in
-    turned-away (c .before .delete-answer .ensures) (delete-low (a .i) (view (a .s .now))) (c .if1 .taken)
+returns c = refuse (c .before .before .delete-answer .ensures) (c .before .refuses .ensures) (c .if1 .taken)
 
 next-of-requires : tie.Need-next-of-requires
 next-of-requires c κs = search needs
@@ -46,14 +47,15 @@ same-length-2 c = search needs
 returns-2 : tie.Need-returns-2
 unfolding delete
 returns-2 c =
-    let e = c .before .before .before .before .before .before .before .before .before .before .before .before .before .before .before in
-    carried-out (e .before .delete-answer .ensures) (e .if1 .left) (cc)
+    let b = c .before .before .before .before .before .before .before .before .before .before .before .before .before .before .before in
+    serve (b .before .before .delete-answer .ensures) (b .before .refuses .ensures) (b .if1 .left) (cc)
 
 pub delete-task-spec : {M : Type 1} → statement M
 delete-task-spec =
     tie.close
     (tie.spec
     delete-answer-requires
+    refuses-requires
     same-length
     returns
     next-of-requires
