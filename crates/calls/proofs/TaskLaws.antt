@@ -11,7 +11,7 @@ use borrow.Author.Tests.{eq-eqb, ne-eqb, le-leb, lt-leb}
 use Rattle.rules.specs.declared.Task.{Task}
 use Rattle.rules.specs.Table.{Table, taskOf, mutexOf, written}
 use Rattle.rules.specs.Task.{onTask, holdsBelow}
-use Rattle.table.specs.PartLaws.{lt-or-le}
+use Rattle.rules.specs.Afresh.{lt-or-le}
 
 -- ---- calls on a task
 

@@ -9,7 +9,8 @@ use lib.ListN.{length, getD, set, take, drop, length-set, List·getD-append}
 use lib.Seq.{ext-getD, getD-take, getD-drop, length-take-le, getD-append-add, getD-set-other, take-at, drop-at, drop-drop}
 use borrow.Rule.Slice.PartMut.{putMid, same-len-mid}
 use Rattle.table.specs.Parts.{part, tabulate, wordAt}
-use Rattle.table.specs.PartLaws.{lt-or-le, part-length, part-at, tabulate-same}
+use Rattle.rules.specs.Afresh.{lt-or-le}
+use Rattle.table.specs.PartLaws.{part-length, part-at, tabulate-same}
 use Rattle.table.specs.Words.{word-agree}
 
 -- ---- what changed

@@ -15,6 +15,7 @@ use Rattle.rules.specs.declared.Task.{Task}
 use Rattle.rules.specs.Table.{Table, taskOf, queueOf, works, placeOf, firstIn, noTask, withTask, withQueue, withRunning, withLeft}
 use Rattle.rules.specs.Decides.{equals, itself, both}
 use Rattle.rules.specs.Move.{leave, join, stays, put, rotate, chosen}
+use Rattle.laws.specs.Put.{put-in, put-moves}
 use Rattle.table.specs.Parts.{part, tabulate}
 use Rattle.table.specs.Image.{Image, queueAt, taskIn, view}
 use Rattle.table.specs.PartLaws.{part-at, tabulate-at, tabulate-length}
@@ -82,41 +83,28 @@ module _ (l : List ℕ) (q i : ℕ) (ys : List ℕ) (h : q < 33) (hl : Image l) 
 -- ---- the ways through a put
 
 module _ (i : ℕ) (k : Task) (t : Table) where
-  pub put-stays : i < 32 → stays (taskOf t i) k ≡ true → put i k t ≡ withTask i k t
-  unfolding put
-  put-stays l h = rw (lt-ltb i 32 l, h)
-
-  pub put-moves : i < 32 → stays (taskOf t i) k ≡ false → put i k t ≡ join (placeOf k) i (leave (placeOf (taskOf t i)) i (withTask i k t))
-  unfolding put
-  put-moves l h = rw (lt-ltb i 32 l, h)
-
-  pub put-not : 32 ≤ i → put i k t ≡ t
-  unfolding put
-  put-not l = rw (le-ltb i 32 l)
+  pub put-same : i < 32 → stays (taskOf t i) k ≡ true → put i k t ≡ withTask i k t
+  put-same l h = put-in i k t l ∙ rw h
 
   kept-place : stays (taskOf t i) k ≡ true → placeOf (taskOf t i) ≡ placeOf k
   unfolding stays
   kept-place h = both equals itself .holds h .0
 
   -- A record that stands in no queue: the task leaves its own.
-  pub put-out : i < 32 → 33 ≤ placeOf k → put i k t ≡ leave (placeOf (taskOf t i)) i (withTask i k t)
-  put-out l h = go (stays (taskOf t i) k) refl
+  pub put-leaves : i < 32 → 33 ≤ placeOf k → put i k t ≡ leave (placeOf (taskOf t i)) i (withTask i k t)
+  put-leaves l h = go (stays (taskOf t i) k) refl
     where
       go : (b : Bool) → stays (taskOf t i) k ≡ b → put i k t ≡ leave (placeOf (taskOf t i)) i (withTask i k t)
-      go true e = put-stays l e ∙ sym (leave-not _ i (withTask i k t) (omega (arith, kept-place e)))
-      go false e = put-moves l e ∙ join-not _ i _ h
+      go true e = put-same l e ∙ sym (leave-not _ i (withTask i k t) (omega (arith, kept-place e)))
+      go false e = put-moves i k t l e ∙ join-not _ i _ h
 
   -- A task that stands in no queue joins that of its record.
-  pub put-into : i < 32 → 33 ≤ placeOf (taskOf t i) → put i k t ≡ join (placeOf k) i (withTask i k t)
-  put-into l h = go (stays (taskOf t i) k) refl
+  pub put-joins : i < 32 → 33 ≤ placeOf (taskOf t i) → put i k t ≡ join (placeOf k) i (withTask i k t)
+  put-joins l h = go (stays (taskOf t i) k) refl
     where
       go : (b : Bool) → stays (taskOf t i) k ≡ b → put i k t ≡ join (placeOf k) i (withTask i k t)
-      go true e = put-stays l e ∙ sym (join-not _ i (withTask i k t) (omega (arith, kept-place e)))
-      go false e = put-moves l e ∙ ap (join (placeOf k) i) (leave-not _ i (withTask i k t) h)
-
-  pub put-kept : i < 32 → placeOf (taskOf t i) ≡ placeOf k → taskOf t i .work ≡ k .work → put i k t ≡ withTask i k t
-  unfolding stays
-  put-kept l p w = put-stays l (both equals equals .passes (p, w))
+      go true e = put-same l e ∙ sym (join-not _ i (withTask i k t) (omega (arith, kept-place e)))
+      go false e = put-moves i k t l e ∙ ap (join (placeOf k) i) (leave-not _ i (withTask i k t) h)
 
 -- A rotation leaves the able queue and joins it again.
 pub rotate-is : (i : ℕ) (t : Table) → i < 32 → 0 < length (t .queues) → rotate i t ≡ join 0 i (leave 0 i (withTask i (withLeft (taskOf t i .quantum) (taskOf t i)) t))
@@ -130,10 +118,6 @@ rotate-is i t l h =
     ∙ join-is 0 i _ (omega arith)
     ∙ ap₂ (λ (keys old : List ℕ). withQueue 0 (behind keys i old) (withQueue 0 x u)) w (getD-set-same (t .queues) 0 x [] h)
     ∙ rw (set-set, lt-ltb i 32 l))
-
-pub rotate-not : (i : ℕ) (t : Table) → 32 ≤ i → rotate i t ≡ t
-unfolding rotate
-rotate-not i t l = rw (le-ltb i 32 l)
 
 -- ---- who runs
 

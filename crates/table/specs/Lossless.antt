@@ -12,7 +12,8 @@ use Rattle.rules.specs.Table.{Table, taskOf, semaphoreOf, mutexOf, queueOf}
 use Rattle.rules.specs.Tape.{Bytes}
 use Rattle.table.specs.Parts.{part, tabulate, wordAt, bytesOf}
 use Rattle.table.specs.Image.{Image, cellAt, semaphoreAt, mutexAt, queueAt, tickAt, depthAt, runningAt, taskIn, taskCell, semaphoreIn, semaphoreCell, mutexIn, mutexCell, view}
-use Rattle.table.specs.PartLaws.{lt-or-le, part-at, part-most, tabulate-at, tabulate-same}
+use Rattle.rules.specs.Afresh.{lt-or-le}
+use Rattle.table.specs.PartLaws.{part-at, part-most, tabulate-at, tabulate-same}
 use Rattle.table.specs.Shape.{view-task, view-semaphore, view-mutex, view-queue, view-tick, view-depth, view-running}
 
 -- The n numbers from a on, one by one.

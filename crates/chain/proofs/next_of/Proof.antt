@@ -1,7 +1,8 @@
 use mathlib.Core.Path.{sym, ap, _∙_}
 use Rattle.rules.specs.declared.Task.{Task}
 use Rattle.rules.specs.Move.{holderOf}
-use Rattle.chain.proofs.Holders.{next-some, next-none}
+use Rattle.rules.specs.Table.{taskOf}
+use Rattle.laws.specs.Graph.{next-is, waits-one, waits-none}
 use Rattle.table.specs.Image.{view}
 use borrow.Author.Needs.{needs}
 use Rattle.chain.proofs.next_of.Statement.{statement}
@@ -23,13 +24,16 @@ holder-of-requires c κs = search needs
 returns : tie.Need-returns
 returns c =
     let a = c .before .before .before .before .before .before .args in
+    let t = view (a .s .now) in
     let e = c .before .before .before .before .task-at .ensures in
-    c .holder-of .ensures ∙ ap (λ (x : Task). holderOf (view (a .s .now)) (x .object)) e ∙ next-some (view (a .s .now)) (a .j) (ap (λ (x : Task). x .state) (sym e) ∙ c .before .before .if1 .taken)
+    let waits = waits-one (holderOf t) (taskOf t (a .j)) (ap (λ (x : Task). x .state) (sym e) ∙ c .before .before .if1 .taken) in
+    c .holder-of .ensures ∙ ap (λ (x : Task). holderOf t (x .object)) e ∙ sym (next-is t (a .j) ∙ waits)
 
 returns-2 : tie.Need-returns-2
 returns-2 c =
     let a = c .before .before .before .before .args in
-    next-none (view (a .s .now)) (a .j) (λ z. c .if1 .left (ap (λ (x : Task). x .state) (c .before .before .task-at .ensures) ∙ z))
+    let t = view (a .s .now) in
+    sym (next-is t (a .j) ∙ waits-none (holderOf t) (taskOf t (a .j)) (λ z. c .if1 .left (ap (λ (x : Task). x .state) (c .before .before .task-at .ensures) ∙ z)))
 
 pub next-of-spec : {M : Type 1} → statement M
 next-of-spec =

@@ -1,7 +1,8 @@
 use mathlib.Core.Path.{sym}
 use native.Mathlib.Omega.{arith}
 use Rattle.table.specs.Image.{view}
-use Rattle.table.proofs.Places.{put-not, put-into}
+use Rattle.laws.specs.Put.{put-out}
+use Rattle.table.proofs.Places.{put-joins}
 use borrow.Author.Needs.{needs}
 use Rattle.table.proofs.moves.bring_in.Statement.{statement}
 use Rattle.table.proofs.moves.bring_in.Tie as tie
@@ -14,7 +15,7 @@ use Rattle.table.proofs.moves.place_of.Reads as place-of-reads
 returns : tie.Need-returns
 returns c =
     let a = c .before .before .args in
-    sym (put-not (a .i) (a .k) (view (a .s .now)) (c .if1 .taken))
+    sym (put-out (a .i) (a .k) (view (a .s .now)) (c .if1 .taken))
 
 set-task-requires : tie.Need-set-task-requires
 set-task-requires c κs = search needs
@@ -31,7 +32,7 @@ same-length c = search needs
 returns-2 : tie.Need-returns-2
 returns-2 c =
     let a = c .before .before .before .before .before .before .before .before .before .before .before in
-    cc (put-into (a .args .i) (a .args .k) (view (a .args .s .now)) (omega arith) (a .pre .0))
+    cc (put-joins (a .args .i) (a .args .k) (view (a .args .s .now)) (omega arith) (a .pre .0))
 
 pub bring-in-spec : {M : Type 1} → statement M
 bring-in-spec =

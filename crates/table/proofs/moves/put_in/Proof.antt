@@ -4,7 +4,8 @@ use mathlib.Core.Bool.{true, false}
 use Rattle.rules.specs.Table.{taskOf}
 use Rattle.rules.specs.Move.{stays}
 use Rattle.table.specs.Image.{view}
-use Rattle.table.proofs.Places.{put-stays, put-moves}
+use Rattle.laws.specs.Put.{put-moves}
+use Rattle.table.proofs.Places.{put-same}
 use borrow.Author.Needs.{needs}
 use Rattle.table.proofs.moves.put_in.Statement.{statement}
 use Rattle.table.proofs.moves.put_in.Tie as tie
@@ -33,7 +34,7 @@ returns : tie.Need-returns
 returns c =
     let a = c .before .before .before .before .before .before .before .before .before .args in
     let h : stays (taskOf (view (a .s .now)) (a .i)) (a .k) ≡ true = cc in
-    cc (put-stays (a .i) (a .k) (view (a .s .now)) (omega arith) h)
+    cc (put-same (a .i) (a .k) (view (a .s .now)) (omega arith) h)
 
 place-of-requires : tie.Need-place-of-requires
 place-of-requires c κs = search needs

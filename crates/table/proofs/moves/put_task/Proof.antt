@@ -1,6 +1,6 @@
 use mathlib.Core.Path.{sym}
 use Rattle.table.specs.Image.{view}
-use Rattle.table.proofs.Places.{put-not}
+use Rattle.laws.specs.Put.{put-out}
 use borrow.Author.Needs.{needs}
 use Rattle.table.proofs.moves.put_task.Statement.{statement}
 use Rattle.table.proofs.moves.put_task.Tie as tie
@@ -11,7 +11,7 @@ use Rattle.table.proofs.moves.put_in.Reads as put-in-reads
 returns : tie.Need-returns
 returns c =
     let a = c .before .before .args in
-    sym (put-not (a .i) (a .k) (view (a .s .now)) (c .if1 .taken))
+    sym (put-out (a .i) (a .k) (view (a .s .now)) (c .if1 .taken))
 
 put-in-requires : tie.Need-put-in-requires
 put-in-requires c κs = search needs

@@ -1,6 +1,6 @@
 use mathlib.Core.Path.{sym}
 use Rattle.table.specs.Image.{view}
-use Rattle.table.proofs.Places.{rotate-not}
+use Rattle.laws.specs.Put.{rotate-out}
 use borrow.Author.Needs.{needs}
 use Rattle.table.proofs.moves.rotate_task.Statement.{statement}
 use Rattle.table.proofs.moves.rotate_task.Tie as tie
@@ -11,7 +11,7 @@ use Rattle.table.proofs.moves.rotate_in.Reads as rotate-in-reads
 returns : tie.Need-returns
 returns c =
     let a = c .before .before .args in
-    sym (rotate-not (a .i) (view (a .s .now)) (c .if1 .taken))
+    sym (rotate-out (a .i) (view (a .s .now)) (c .if1 .taken))
 
 rotate-in-requires : tie.Need-rotate-in-requires
 rotate-in-requires c κs = search needs

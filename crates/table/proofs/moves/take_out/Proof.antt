@@ -1,7 +1,8 @@
 use mathlib.Core.Path.{sym}
 use native.Mathlib.Omega.{arith}
 use Rattle.table.specs.Image.{view}
-use Rattle.table.proofs.Places.{put-not, put-out}
+use Rattle.laws.specs.Put.{put-out}
+use Rattle.table.proofs.Places.{put-leaves}
 use borrow.Author.Needs.{needs}
 use Rattle.table.proofs.moves.take_out.Statement.{statement}
 use Rattle.table.proofs.moves.take_out.Tie as tie
@@ -15,7 +16,7 @@ use Rattle.table.proofs.moves.place_of.Reads as place-of-reads
 returns : tie.Need-returns
 returns c =
     let a = c .before .before .args in
-    sym (put-not (a .i) (a .k) (view (a .s .now)) (c .if1 .taken))
+    sym (put-out (a .i) (a .k) (view (a .s .now)) (c .if1 .taken))
 
 get-task-requires : tie.Need-get-task-requires
 get-task-requires c κs = search needs
@@ -35,7 +36,7 @@ same-length c = search needs
 returns-2 : tie.Need-returns-2
 returns-2 c =
     let a = c .before .before .before .before .before .before .before .before .before .before .before .before .before in
-    cc (put-out (a .args .i) (a .args .k) (view (a .args .s .now)) (omega arith) (a .pre .0))
+    cc (put-leaves (a .args .i) (a .args .k) (view (a .args .s .now)) (omega arith) (a .pre .0))
 
 pub take-out-spec : {M : Type 1} → statement M
 take-out-spec =
