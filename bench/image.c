@@ -3,7 +3,9 @@
 
 #include <string.h>
 
-enum { TASKS_AT = 32, SEMAPHORES_AT = 512, MUTEXES_AT = 592, QUEUES_AT = 640, TICK_AT = 1696, DEPTH_AT = 1700, RUNNING_AT = 1701 };
+enum { STATES_AT = 32, DUES_AT = 64, TASKS_AT = 192, SEMAPHORES_AT = 512, MUTEXES_AT = 592, QUEUES_AT = 640 };
+
+enum { TICK_AT = 1696, DEPTH_AT = 1700, RUNNING_AT = 1701 };
 
 /* Queue 0 is that of the able tasks. */
 static unsigned head_of(unsigned queue)
@@ -31,17 +33,17 @@ void image_of(const struct plain *k, uint8_t image[NTK_IMAGE_SIZE])
     memcpy(image, k->work, PLAIN_TASKS);
     for (i = 0; i < PLAIN_TASKS; i++) {
         const struct plain_task *t = &k->task[i];
-        uint8_t *at = image + TASKS_AT + 15 * i;
+        uint8_t *at = image + TASKS_AT + 10 * i;
         at[0] = t->used;
         at[1] = t->base;
         at[2] = t->suspended;
         put16(at + 3, t->quantum);
         put16(at + 5, t->left);
-        at[7] = t->state;
-        at[8] = t->object;
-        at[9] = k->marked >> i & 1;
-        put32(at + 10, t->mark);
-        at[14] = t->outcome;
+        at[7] = t->object;
+        at[8] = k->marked >> i & 1;
+        at[9] = t->outcome;
+        image[STATES_AT + i] = t->state;
+        put32(image + DUES_AT + 4 * i, t->mark);
     }
     for (i = 0; i < PLAIN_OBJECTS; i++) {
         const struct plain_mutex *m = &k->mutex[i];

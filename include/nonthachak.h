@@ -88,7 +88,7 @@ struct ntk_outcome ntk_serve(uint8_t kind, uint32_t a, uint32_t b, uint32_t c, u
 /* What the last wait of a task came to, read from the image. */
 static inline enum ntk_wait ntk_wait_of(const uint8_t *image, unsigned task)
 {
-    return (enum ntk_wait)image[32 + 15 * task + 14];
+    return (enum ntk_wait)image[192 + 10 * task + 9];
 }
 
 #ifdef __cplusplus

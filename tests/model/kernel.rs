@@ -815,7 +815,9 @@ impl Kernel {
 // ---------------------------------------------------------------------------------------------------
 // The image (docs/IMAGE.md)
 
-const TASK_FROM: usize = 32;
+const STATE_FROM: usize = 32;
+const DUE_FROM: usize = 64;
+const TASK_FROM: usize = 192;
 const SEMAPHORE_FROM: usize = 512;
 const MUTEX_FROM: usize = 592;
 const QUEUE_FROM: usize = 640;
@@ -857,7 +859,9 @@ impl Kernel {
         let mut image = vec![0; IMAGE];
         for (t, task) in self.tasks.iter().enumerate() {
             image[t] = task.working;
-            encode_task(task, &mut image[TASK_FROM + 15 * t..][..15]);
+            image[STATE_FROM + t] = state_and_object(task).0;
+            image[DUE_FROM + 4 * t..][..4].copy_from_slice(&task.mark.unwrap_or(0).to_le_bytes());
+            encode_cell(task, &mut image[TASK_FROM + 10 * t..][..10]);
         }
         for (s, semaphore) in self.semaphores.iter().enumerate() {
             let at = &mut image[SEMAPHORE_FROM + 5 * s..][..5];
@@ -888,7 +892,7 @@ impl Kernel {
         }
         let mut kernel = Kernel::fresh();
         for t in 0..TASKS {
-            kernel.tasks[t] = decode_task(image[t], &image[TASK_FROM + 15 * t..][..15])?;
+            kernel.tasks[t] = decode_task(image, t)?;
         }
         for s in 0..OBJECTS {
             let from = SEMAPHORE_FROM + 5 * s;
@@ -920,35 +924,37 @@ impl Kernel {
     }
 }
 
-fn encode_task(task: &Task, at: &mut [u8]) {
-    let (state, object) = match task.state {
+fn state_and_object(task: &Task) -> (u8, u8) {
+    match task.state {
         State::Plain => (0, 0),
         State::Delayed => (1, 0),
         State::Semaphore(s) => (2, s as u8),
         State::Mutex(m) => (3, m as u8),
-    };
+    }
+}
+
+fn encode_cell(task: &Task, at: &mut [u8]) {
     at[0] = u8::from(task.used);
     at[1] = task.base;
     at[2] = task.suspends;
     at[3..5].copy_from_slice(&task.quantum.to_le_bytes());
     at[5..7].copy_from_slice(&task.left.to_le_bytes());
-    at[7] = state;
-    at[8] = object;
-    at[9] = u8::from(task.mark.is_some());
-    at[10..14].copy_from_slice(&task.mark.unwrap_or(0).to_le_bytes());
-    at[14] = task.outcome;
+    at[7] = state_and_object(task).1;
+    at[8] = u8::from(task.mark.is_some());
+    at[9] = task.outcome;
 }
 
-fn decode_task(working: u8, at: &[u8]) -> Option<Task> {
-    let object = at[8] as usize;
-    let state = match at[7] {
+fn decode_task(image: &[u8], t: usize) -> Option<Task> {
+    let at = &image[TASK_FROM + 10 * t..][..10];
+    let object = at[7] as usize;
+    let state = match image[STATE_FROM + t] {
         0 if object == 0 => State::Plain,
         1 if object == 0 => State::Delayed,
         2 if object < OBJECTS => State::Semaphore(object),
         3 if object < OBJECTS => State::Mutex(object),
         _ => return None,
     };
-    let mark = match (flag(at[9])?, u32_at(at, 10)) {
+    let mark = match (flag(at[8])?, u32_at(image, DUE_FROM + 4 * t)) {
         (true, mark) => Some(mark),
         (false, 0) => None,
         (false, _) => return None,
@@ -956,13 +962,13 @@ fn decode_task(working: u8, at: &[u8]) -> Option<Task> {
     Some(Task {
         used: flag(at[0])?,
         base: at[1],
-        working,
+        working: image[t],
         suspends: at[2],
         quantum: u16_at(at, 3),
         left: u16_at(at, 5),
         state,
         mark,
-        outcome: at[14],
+        outcome: at[9],
     })
 }
 
@@ -977,18 +983,22 @@ fn decode_queue(slots: &[u8]) -> Option<Vec<usize>> {
 
 /// What a byte of the image means, for reports.
 pub fn meaning(offset: usize) -> String {
-    const FIELDS: [&str; 15] = [
+    const FIELDS: [&str; 10] = [
         "in use", "base priority", "suspend count", "quantum, low byte", "quantum, high byte",
-        "left, low byte", "left, high byte", "state", "object waited for", "has a due mark",
-        "due mark, byte 0", "due mark, byte 1", "due mark, byte 2", "due mark, byte 3", "outcome",
+        "left, low byte", "left, high byte", "object waited for", "has a due mark", "outcome",
     ];
     const COUNT: [&str; 5] = ["in use", "count, byte 0", "count, byte 1", "count, byte 2", "count, byte 3"];
     const HELD: [&str; 3] = ["in use", "holder plus 1", "nesting"];
     let within = |from: usize, size: usize| ((offset - from) / size, (offset - from) % size);
-    if offset < TASK_FROM {
+    if offset < STATE_FROM {
         format!("working priority of task {offset}")
+    } else if offset < DUE_FROM {
+        format!("state of task {}", offset - STATE_FROM)
+    } else if offset < TASK_FROM {
+        let (t, byte) = within(DUE_FROM, 4);
+        format!("due mark of task {t}, byte {byte}")
     } else if offset < SEMAPHORE_FROM {
-        let (t, field) = within(TASK_FROM, 15);
+        let (t, field) = within(TASK_FROM, 10);
         format!("task {t}: {}", FIELDS[field])
     } else if offset < MUTEX_FROM {
         let (s, field) = within(SEMAPHORE_FROM, 5);

@@ -6,3 +6,4 @@ mod ServiceLaws
 mod TaskLaws
 mod MutexLaws
 mod TickLaws
+mod PeerLaws

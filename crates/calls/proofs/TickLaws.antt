@@ -1,16 +1,20 @@
 -- The tick, case by case. Assumes nothing.
 use mathlib.Core.Path.{_≡_, refl, sym, ap, _∙_}
 use mathlib.Core.Bool.{Bool, true, false, cond, not, _&&_, _||_, true≢false}
-use Prim.Native.Nat.{ℕ, _+_, _-_}
+use Prim.Native.Nat.{ℕ, zero, suc, _+_, _-_, _≤_, _<_}
 use native.Mathlib.Omega.{arith}
+use native.Mathlib.Nat.{add-zero}
 use native.Mathlib.Numerals.{add-one}
 use lib.Dec.{eqb}
 use borrow.Author.Tests.{eq-eqb, ne-eqb}
 use Rattle.rules.specs.declared.Task.{Task}
+use Rattle.rules.specs.Sizes.{delayed, given, timedOut}
 use Rattle.rules.specs.Table.{Table, taskOf, withLeft}
 use Rattle.rules.specs.Move.{put, rotate, ended, hasPeer}
 use Rattle.rules.specs.Time.{callerOf}
 use Rattle.rules.specs.Tick.{turned, isDue, dueEnded, dueBelow}
+use Rattle.laws.specs.Ending.{ended-rest}
+use Rattle.calls.specs.Marks.{isAt, someAt, dueFrom}
 
 -- ---- two tests at once, and a third
 
@@ -78,3 +82,92 @@ module _ (i : ℕ) (t : Table) where
 pub below-none : (t : Table) → t ≡ dueBelow 0 t
 unfolding dueBelow
 below-none t = refl
+
+-- ---- some tasks in a row
+
+or-none : (b : Bool) → b || false ≡ b
+or-none false = refl
+or-none true = refl
+
+-- The due marks of eight tasks, as they are asked for one by one.
+pub some-eight : (a now : ℕ) (t : Table)
+    → someAt 8 a now t ≡ isAt a now t || (isAt (a + 1) now t || (isAt (a + 2) now t || (isAt (a + 3) now t || (isAt (a + 4) now t || (isAt (a + 5) now t || (isAt (a + 6) now t || isAt (a + 7) now t))))))
+unfolding someAt
+some-eight a now t =
+    let e2 : a + 1 + 1 ≡ a + 2 = omega arith in
+    let e3 : a + 1 + 1 + 1 ≡ a + 3 = omega arith in
+    let e4 : a + 1 + 1 + 1 + 1 ≡ a + 4 = omega arith in
+    let e5 : a + 1 + 1 + 1 + 1 + 1 ≡ a + 5 = omega arith in
+    let e6 : a + 1 + 1 + 1 + 1 + 1 + 1 ≡ a + 6 = omega arith in
+    let e7 : a + 1 + 1 + 1 + 1 + 1 + 1 + 1 ≡ a + 7 = omega arith in
+    rw (e7, e6, e5, e4, e3, e2, or-none (isAt (a + 7) now t))
+
+-- No end of a wait changes the tick.
+ended-tick : (outcome i : ℕ) (t : Table) → ended outcome i t .tick ≡ t .tick
+ended-tick outcome i t = ap (λ (x : Table). x .tick) (ended-rest outcome i t)
+
+due-tick : (i : ℕ) (t : Table) → dueEnded i t .tick ≡ t .tick
+unfolding dueEnded
+due-tick i t = go (isDue i t)
+  where
+    go : (b : Bool) → (cond b (ended (cond (eqb (taskOf t i .state) delayed) given timedOut) i t) t) .tick ≡ t .tick
+    go true = ended-tick _ i t
+    go false = refl
+
+below-tick : (n : ℕ) (t : Table) → dueBelow n t .tick ≡ t .tick
+unfolding dueBelow
+below-tick zero t = refl
+below-tick (suc n) t = due-tick n (dueBelow n t) ∙ below-tick n t
+
+-- Those from a on, after those below a.
+below-from : (n a : ℕ) (t : Table) → dueFrom n a (dueBelow a t) ≡ dueBelow (a + n) t
+unfolding dueFrom
+below-from zero a t = sym (ap (λ (x : ℕ). dueBelow x t) (add-zero a))
+below-from (suc n) a t =
+    let e : a + 1 + n ≡ a + suc n = omega arith in
+    ap (dueFrom n (a + 1)) (below-next a t) ∙ below-from n (a + 1) t ∙ ap (λ (x : ℕ). dueBelow x t) e
+
+or-first : (a b : Bool) → a || b ≡ false → a ≡ false
+or-first false b e = refl
+or-first true b e = absurd (true≢false e)
+
+or-last : (a b : Bool) → a || b ≡ false → b ≡ false
+or-last false b e = e
+or-last true b e = absurd (true≢false e)
+
+and-none : (a b : Bool) → b ≡ false → a && b ≡ false
+and-none false b e = refl
+and-none true b e = e
+
+-- Where no mark is the tick, none is due.
+from-none : (n a : ℕ) (t : Table) → someAt n a (t .tick) t ≡ false → dueFrom n a t ≡ t
+unfolding someAt dueFrom
+from-none zero a t e = refl
+from-none (suc n) a t e =
+    let here = isAt a (t .tick) t in
+    let others = someAt n (a + 1) (t .tick) t in
+    let still : t ≡ dueEnded a t = due-not a t (and-none (eqb (taskOf t a .marked) 1) here (or-first here others e)) in
+    sym (ap (dueFrom n (a + 1)) still) ∙ from-none n (a + 1) t (or-last here others e)
+
+-- The n tasks from a on, after those below a: they end, or are passed over.
+module _ (n a : ℕ) (t : Table) {u : Table} (before : u ≡ dueBelow a t) where
+  pub row-ends : {v : Table} → v ≡ dueFrom n a u → v ≡ dueBelow (a + n) t
+  row-ends e = e ∙ ap (dueFrom n a) before ∙ below-from n a t
+
+  pub row-passed : (now : ℕ) → now ≡ t .tick → someAt n a now u ≡ false → u ≡ dueBelow (a + n) t
+  row-passed now k e =
+      let same : now ≡ u .tick = k ∙ sym (below-tick a t) ∙ sym (ap (λ (x : Table). x .tick) before) in
+      row-ends (sym (from-none n a u (rw same at e)))
+
+-- One task of those that are left, up to e.
+pub from-next : (e i : ℕ) (t : Table) → i < e → dueFrom (e - i) i t ≡ dueFrom (e - (i + 1)) (i + 1) (dueEnded i t)
+unfolding dueFrom
+from-next e i t l =
+    let s : e - i ≡ suc (e - (i + 1)) = omega arith in
+    rw s
+
+pub from-end : (e i : ℕ) (t : Table) → e ≤ i → dueFrom (e - i) i t ≡ t
+unfolding dueFrom
+from-end e i t l =
+    let s : e - i ≡ 0 = omega arith in
+    rw s

@@ -2,11 +2,12 @@
 ghost use mathlib.Core.Path.{_≡_};
 ghost use mathlib.Core.Bool.{_&&_};
 ghost use lib.Dec.{eqb};
-ghost use Prim.Native.Nat.{_-_};
+ghost use Prim.Native.Nat.{_+_, _-_, _<_, _≤_};
 ghost use Rattle.rules.specs.Table.{withLeft};
 ghost use Rattle.rules.specs.Move.{chosen, hasPeer};
 ghost use Rattle.rules.specs.Tick.{turned, isDue, dueEnded, dueBelow, ticked};
 ghost use Rattle.table.specs.Image.{Image, view};
+ghost use Rattle.calls.specs.Marks.{isAt, someAt, dueFrom};
 use crate::ending;
 use crate::time;
 use table::cells;
@@ -77,14 +78,53 @@ fn end_due(s: &mut [u8], i: usize)
     ending::end_wait(s, 1, i);
 }
 
+// Whether the due mark of task i is the tick `at`.
+fn is_at(s: &[u8], i: usize, at: u32) -> bool
+    requires { ⌜ (i < 32) × Image (now s) ⌝ }
+    ensures { λ r. ⌜ r ≡ isAt i at (view (now (s .entry))) ⌝ }
+{
+    let k = cells::get_task(s, i);
+    k.due == at
+}
+
+// Whether a due mark of the eight tasks from `a` on is the tick `at`. No branch for a task, so that the compiler takes all at once.
+fn any_at(s: &[u8], a: usize, at: u32) -> bool
+    requires { ⌜ (a + 8 ≤ 32) × Image (now s) ⌝ }
+    ensures { λ r. ⌜ r ≡ someAt 8 a at (view (now (s .entry))) ⌝ }
+{
+    is_at(s, a, at)
+        | (is_at(s, a + 1, at)
+            | (is_at(s, a + 2, at)
+                | (is_at(s, a + 3, at)
+                    | (is_at(s, a + 4, at)
+                        | (is_at(s, a + 5, at) | (is_at(s, a + 6, at) | is_at(s, a + 7, at)))))))
+}
+
+// Those of the eight tasks from `a` on that are due.
+fn end_eight(s: &mut [u8], a: usize)
+    requires { ⌜ (a + 8 ≤ 32) × Image (now s) ⌝ }
+    ensures { λ _. ⌜ view (now (s .exit)) ≡ dueFrom 8 a (view (now (s .entry))) ⌝ }
+{
+    let mut i = a;
+    let end = a + 8;
+    while i < end {
+        end_due(s, i);
+        i += 1;
+    }
+}
+
+// Most marks lie ahead: eight tasks of which none has its mark at the tick are passed over.
 fn end_all_due(s: &mut [u8])
     requires { ⌜ Image (now s) ⌝ }
     ensures { λ _. ⌜ view (now (s .exit)) ≡ dueBelow 32 (view (now (s .entry))) ⌝ }
 {
-    let mut i: usize = 0;
-    while i < 32 {
-        end_due(s, i);
-        i += 1;
+    let at = cells::get_tick(s);
+    let mut a: usize = 0;
+    while a < 32 {
+        if any_at(s, a, at) {
+            end_eight(s, a);
+        }
+        a += 8;
     }
 }
 

@@ -1,13 +1,12 @@
 // Yield, delay, delay resume.
 ghost use mathlib.Core.Path.{_≡_};
-ghost use mathlib.Core.Bool.{not, _&&_};
-ghost use lib.Dec.{eqb};
 ghost use Prim.Native.Nat.{_<_};
-ghost use Rattle.rules.specs.Table.{taskOf, isAble};
+ghost use Rattle.rules.specs.Sound.{once};
 ghost use Rattle.rules.specs.Move.{chosen, peerBelow};
 ghost use Rattle.rules.specs.Time.{callerOf, markIn, yieldAnswer, yield, delayAnswer, delay, delayResumeAnswer, delayResume};
 ghost use Rattle.table.specs.Image.{Image, view};
 ghost use Rattle.calls.specs.Served.{Served};
+ghost use Rattle.calls.specs.Peers.{isPlainWith, plainBelow, isAlone, isPeer, isSecondPeer};
 use crate::ending;
 use crate::object;
 use table::cells;
@@ -36,15 +35,15 @@ pub fn mark_in(s: &[u8], n: u32) -> u32
 // Whether task j is able, other than i, and of the working priority w.
 fn is_peer(s: &[u8], j: usize, i: usize, w: u8) -> bool
     requires { ⌜ Image (now s) ⌝ }
-    ensures { λ r. ⌜ r ≡ not (eqb j i) && (isAble (taskOf (view (now (s .entry))) j) && eqb (taskOf (view (now (s .entry))) j .work) w) ⌝ }
+    ensures { λ r. ⌜ r ≡ isPeer j i w (view (now (s .entry))) ⌝ }
 {
     let k = cells::task_at(s, j);
     let able = moves::is_able(k);
     !(j == i) & (able & (k.work == w))
 }
 
-// Whether another able task has the working priority of task i.
-pub fn has_peer(s: &[u8], i: usize) -> bool
+// Whether another able task has the working priority of task i: each task is asked.
+fn find_peer(s: &[u8], i: usize) -> bool
     requires { ⌜ Image (now s) ⌝ }
     ensures { λ r. ⌜ r ≡ peerBelow 32 i (view (now (s .entry))) ⌝ }
 {
@@ -58,6 +57,72 @@ pub fn has_peer(s: &[u8], i: usize) -> bool
         }
     }
     false
+}
+
+// 1 for a plain task of the working priority w.
+fn counts_as(k: rules::Task, w: u8) -> u8
+    ensures { λ r. ⌜ r ≡ once (isPlainWith w k) ⌝ }
+{
+    if (k.work == w) & (k.state == 0) {
+        return 1;
+    }
+    0
+}
+
+// How many tasks are plain and of the working priority w. No branch for a task, so that the compiler takes many at once.
+fn plain_with(s: &[u8], w: u8) -> u8
+    requires { ⌜ Image (now s) ⌝ }
+    ensures { λ r. ⌜ r ≡ plainBelow 32 w (view (now (s .entry))) ⌝ }
+{
+    let mut n: u8 = 0;
+    let mut j = 0;
+    while j < 32 {
+        n += counts_as(cells::get_task(s, j), w);
+        j += 1;
+    }
+    n
+}
+
+// Whether task i, plain, is the only one of its working priority that is.
+fn is_alone(s: &[u8], i: usize) -> bool
+    requires { ⌜ Image (now s) ⌝ }
+    ensures { λ r. ⌜ r ≡ isAlone i (view (now (s .entry))) ⌝ }
+{
+    if 32 <= i {
+        return false;
+    }
+    let k = cells::get_task(s, i);
+    if k.state != 0 {
+        return false;
+    }
+    plain_with(s, k.work) <= 1
+}
+
+// Whether the second of the able queue, byte 641, is a peer of task i.
+fn is_second_peer(s: &[u8], i: usize) -> bool
+    requires { ⌜ Image (now s) ⌝ }
+    ensures { λ r. ⌜ r ≡ isSecondPeer i (view (now (s .entry))) ⌝ }
+{
+    let v = s[641];
+    if v == 0 {
+        return false;
+    }
+    let k = cells::task_at(s, i);
+    is_peer(s, v as usize - 1, i, k.work)
+}
+
+// Whether another able task has the working priority of task i. Two quick questions mostly settle it, and else each task is asked.
+pub fn has_peer(s: &[u8], i: usize) -> bool
+    requires { ⌜ Image (now s) ⌝ }
+    ensures { λ r. ⌜ r ≡ peerBelow 32 i (view (now (s .entry))) ⌝ }
+{
+    if is_alone(s, i) {
+        return false;
+    }
+    if is_second_peer(s, i) {
+        return true;
+    }
+    find_peer(s, i)
 }
 
 fn yield_answer(s: &[u8]) -> u8

@@ -62,6 +62,16 @@ module _ {n : ℕ} {next base : ℕ → ℕ} where
         edges = λ i h m. inr (omega arith, omega (arith, s i h));
       }
 
+  -- The next k tasks wait for none, so they have no turn to take.
+  pub settled-past : {j : ℕ} {l : List ℕ} (k : ℕ) → ((i : ℕ) → j ≤ i → i < j + k → n ≤ next i) → Settled n next base j l → Settled n next base (j + k) l
+  unfolding Edge
+  settled-past {j} {l} k none s = record { size = s .size; among = s .among; edges = λ i h m. edge i m (lt-or-le i (j + k)) (s .edges i h m) }
+    where
+      edge : (i : ℕ) → next i < n → (i < j + k) ⊎ (j + k ≤ i) → Edge next base j l i → Edge next base (j + k) l i
+      edge i m d (inl x) = inl x
+      edge i m (inl d) (inr x) = absurd (omega (arith, none i (x .0) d))
+      edge i m (inr d) (inr x) = inr (d, x .1)
+
   pub carrying-start : {j b p : ℕ} {l : List ℕ} → j < n → b ≡ base j → p ≡ next j → Settled n next base j l → Carrying n next base (j + 1) b p l
   unfolding Edge Source
   carrying-start {j} {b} {p} {l} h e q s =

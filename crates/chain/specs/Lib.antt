@@ -1,2 +1,3 @@
 pub mod Carry
 pub mod Given
+pub mod States

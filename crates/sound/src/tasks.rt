@@ -22,37 +22,32 @@ fn le64(low: u32, a: u8, b: u8, c: u8, d: u8) -> u64
         + 72057594037927936 * (d as u64)
 }
 
-fn four_at(b: &[u8], at: usize) -> u32
-    requires { ⌜ at + 4 ≤ length (now b) ⌝ }
-    ensures { λ r. ⌜ r ≡ wordAt 4 at (now (b .entry)) ⌝ }
-{
-    table::cells::le32(b[at], b[at + 1], b[at + 2], b[at + 3])
-}
-
 fn eight_at(b: &[u8], at: usize) -> u64
     requires { ⌜ at + 8 ≤ length (now b) ⌝ }
     ensures { λ r. ⌜ r ≡ wordAt 8 at (now (b .entry)) ⌝ }
 {
-    let low = four_at(b, at);
+    let low = table::cells::four_at(b, at);
     le64(low, b[at + 4], b[at + 5], b[at + 6], b[at + 7])
 }
 
-// Whether a cell and its working priority are all zero. The two numbers share a byte, as a cell has 15.
-fn is_blank(b: &[u8], work: u8) -> bool
-    requires { ⌜ length (now b) ≡ 15 ⌝ }
-    ensures { λ r. ⌜ r ≡ isNoTask (taskIn work (now (b .entry))) ⌝ }
+// Whether a cell and what stands apart are all zero. The two numbers of the cell share six bytes, as it has ten.
+fn is_blank(b: &[u8], work: u8, state: u8, due: u32) -> bool
+    requires { ⌜ length (now b) ≡ 10 ⌝ }
+    ensures { λ r. ⌜ r ≡ isNoTask (taskIn work state due (now (b .entry))) ⌝ }
 {
-    (eight_at(b, 0) == 0) & ((eight_at(b, 7) == 0) & (work == 0))
+    (eight_at(b, 0) == 0) & ((eight_at(b, 2) == 0) & ((work == 0) & ((state == 0) & (due == 0))))
 }
 
 fn is_free(s: &[u8], i: usize) -> bool
     requires { ⌜ (i < 32) × Image (now s) ⌝ }
     ensures { λ r. ⌜ r ≡ isNoTask (taskOf (view (now (s .entry))) i) ⌝ }
 {
-    let a = 32 + i * 15;
-    let e = a + 15;
+    let a = 192 + i * 10;
+    let e = a + 10;
     let work = s[i];
-    is_blank(&s[a..e], work)
+    let state = s[32 + i];
+    let due = table::cells::four_at(s, 64 + i * 4);
+    is_blank(&s[a..e], work, state, due)
 }
 
 fn objects_in(state: u8) -> u8

@@ -80,7 +80,7 @@ module _ {a n : ℕ} {l m : List ℕ} (c : Changed a n l m) where
 pub row : (w c i : ℕ) → i < c → i * w + w ≤ c * w
 row w c i h = let e : suc i * w ≡ i * w + w = suc-mul i w in let g : suc i * w ≤ c * w = mul-le-mul-right w h in omega arith
 
-rows-apart : (b w i k : ℕ) → (k ≡ i → ⊥) → Apart (b + i * w) w (b + k * w) w
+pub rows-apart : (b w i k : ℕ) → (k ≡ i → ⊥) → Apart (b + i * w) w (b + k * w) w
 rows-apart b w i k o =
     ⊎-elim (λ (p : k < i). inl (omega (arith, row w i k p)))
     (λ (p : i ≤ k). let q : i < k = ⊎-elim (λ (u : i < k). u) (λ (u : k ≤ i). absurd (o (omega arith))) (lt-or-le i k) in inr (omega (arith, row w k i q)))

@@ -17,7 +17,7 @@ use Rattle.rules.specs.Decides.{equals, itself, both}
 use Rattle.rules.specs.Move.{leave, join, stays, put, rotate, chosen}
 use Rattle.laws.specs.Put.{put-in, put-moves}
 use Rattle.table.specs.Parts.{part, tabulate}
-use Rattle.table.specs.Image.{Image, queueAt, taskIn, view}
+use Rattle.table.specs.Image.{Image, queueAt, taskIn, taskAt, view}
 use Rattle.table.specs.PartLaws.{part-at, tabulate-at, tabulate-length}
 use Rattle.table.specs.Shape.{view-queue, view-slots}
 use Rattle.table.proofs.Stores.{store-queue}
@@ -30,7 +30,7 @@ map-tabulate h zero f = refl
 map-tabulate {A} {B} h (suc n) f = ap (λ (l : List B). h (f 0) ∷ l) (map-tabulate h n (λ k. f (suc k)))
 
 pub view-works : (l : List ℕ) → Image l → works (view l) ≡ take 32 l
-unfolding view works taskIn
+unfolding view works taskAt taskIn
 view-works l h =
     map-tabulate (λ (k : Task). k .work) 32 _
     ∙ ext-getD 0 (tabulate 32 (λ i. getD l i 0)) (take 32 l) (n ∙ sym (length-take-le 32 l (omega arith))) (λ i p. go i (subst (λ (z : ℕ). i < z) n p))

@@ -1,6 +1,6 @@
 -- How a store shows in the view: one law for each component that a change elsewhere leaves, and one for each setter. Assumes nothing.
 use mathlib.Core.Path.{_≡_, refl, sym, ap, ap₂, _∙_}
-use mathlib.Core.Logic.{inl, inr}
+use mathlib.Core.Logic.{_⊎_, inl, inr}
 use mathlib.Core.Bool.{Bool, true, false, cond, _&&_}
 use mathlib.Core.List.{List}
 use Prim.Native.Nat.{ℕ, _+_, _≤_, _<_}
@@ -13,28 +13,30 @@ use borrow.Rule.Slice.PartMut.{putMid}
 use Rattle.rules.specs.declared.Task.{Task}
 use Rattle.rules.specs.declared.Semaphore.{Semaphore}
 use Rattle.rules.specs.declared.Mutex.{Mutex}
-use Rattle.rules.specs.Table.{Table, taskOf, withWork, withTask, withSemaphore, withMutex, withQueue, withTick, withDepth, withRunning}
-use Rattle.table.specs.Parts.{part, bytesOf}
-use Rattle.table.specs.Image.{Image, Fitting, cellAt, semaphoreAt, mutexAt, queueAt, tickAt, depthAt, runningAt, taskIn, taskCell, semaphoreIn, semaphoreCell, mutexIn, mutexCell, view}
-use Rattle.table.specs.Shape.{view-task, view-tick, view-depth, view-running}
+use Rattle.rules.specs.Table.{Table, withTask, withSemaphore, withMutex, withQueue, withTick, withDepth, withRunning}
+use Rattle.table.specs.Parts.{part, wordAt, bytesOf}
+use Rattle.table.specs.Image.{Image, Fitting, stateAt, dueAt, cellAt, semaphoreAt, mutexAt, queueAt, tickAt, depthAt, runningAt, taskCell, dueCell, taskAt, semaphoreIn, semaphoreCell, mutexIn, mutexCell, view}
+use Rattle.table.specs.PartLaws.{tabulate-same}
+use Rattle.table.specs.Shape.{view-tick, view-depth, view-running}
 use Rattle.table.specs.Words.{word-back, task-back, semaphore-back, mutex-back}
-use Rattle.table.proofs.Changes.{Changed, Apart, set-changed, put-changed, put-there, byte-kept, word-kept, part-kept, tabulate-set, array-same, array-put}
+use Rattle.table.proofs.Changes.{Changed, Apart, set-changed, put-changed, put-there, byte-kept, word-kept, part-kept, rows-apart, tabulate-set, array-same, array-put}
 
 -- ---- what a change elsewhere leaves, component by component
 
 module _ {a n : ℕ} {l m : List ℕ} (h : Image l) (c : Changed a n l m) where
   tasks-same : Apart a n 0 512 → view m .tasks ≡ view l .tasks
-  unfolding view
+  unfolding view taskAt
   tasks-same o =
-      array-same 32 15 32 l m (omega arith) (λ k. taskIn (getD l k 0)) (λ k. taskIn (getD m k 0)) (λ k p. ap taskIn (work k p o)) c (cells o)
+      tabulate-same 32 _ _
+      (λ k p. rw (byte k (omega arith) o, byte (stateAt k) (omega arith) o, word-kept c (dueAt k) 4 (within (dueAt k) 4 (omega arith) o), part-kept c (cellAt k) 10 (within (cellAt k) 10 (omega arith) o) (omega arith)))
     where
-      work : (k : ℕ) → k < 32 → Apart a n 0 512 → getD m k 0 ≡ getD l k 0
-      work k p (inl q) = c .rest k (inl (omega arith))
-      work k p (inr q) = c .rest k (inr (omega arith))
+      byte : (j : ℕ) → j < 512 → Apart a n 0 512 → getD m j 0 ≡ getD l j 0
+      byte j p (inl q) = c .rest j (inl (omega arith))
+      byte j p (inr q) = c .rest j (inr (omega arith))
 
-      cells : Apart a n 0 512 → Apart a n 32 480
-      cells (inl q) = inl q
-      cells (inr q) = inr (omega arith)
+      within : (b w : ℕ) → b + w ≤ 512 → Apart a n 0 512 → Apart a n b w
+      within b w p (inl q) = inl (omega arith)
+      within b w p (inr q) = inr (omega arith)
 
   semaphores-same : Apart a n 512 80 → view m .semaphores ≡ view l .semaphores
   unfolding view
@@ -102,42 +104,98 @@ module _ {a n : ℕ} {l m : List ℕ} (b e : ℕ) (h : Image l) (c : Changed a n
         running = kept 1701 1 (running-same h c) k;
       }
 
--- ---- a task: its working priority, its cell, then both
-
-module _ (l : List ℕ) (i v : ℕ) (hl : Image l) (h : i < 32) where
-  cells-kept : (k : ℕ) → k < 32 → part (cellAt k) 15 (set l i v) ≡ part (cellAt k) 15 l
-  cells-kept k p = part-kept (set-changed l i v) (cellAt k) 15 (inr (omega arith)) (omega arith)
-
-  tasks-work : view (set l i v) .tasks ≡ set (view l .tasks) i (withWork v (taskOf (view l) i))
-  unfolding view taskIn
-  tasks-work =
-      tabulate-set 32 _ _ i h (λ k p o. ap₂ taskIn (getD-set-other l i k v 0 o) (cells-kept k p))
-      ∙ ap (set (view l .tasks) i) (ap₂ taskIn (getD-set-same l i v 0 (omega arith)) (cells-kept i h) ∙ ap (withWork v) (sym (view-task l i h)))
-
-  store-work : view (set l i v) ≡ withTask i (withWork v (taskOf (view l) i)) (view l)
-  store-work = frame 0 512 hl (set-changed l i v) (omega arith) (omega arith) ∙ rw tasks-work
+-- ---- a task: its working priority, its state, its due mark, its cell
 
 module _ (l : List ℕ) (i : ℕ) (k : Task) (hl : Image l) (h : i < 32) (f : Fitting k) where
-  cell-changed : Changed (cellAt i) 15 l (putMid (cellAt i) 15 l (taskCell k))
+  abbrev one : List ℕ
+  one = set l i (k .work)
+
+  abbrev two : List ℕ
+  two = set one (stateAt i) (k .state)
+
+  abbrev three : List ℕ
+  three = putMid (dueAt i) 4 two (dueCell k)
+
+  abbrev four : List ℕ
+  four = putMid (cellAt i) 10 three (taskCell k)
+
+  first : Changed i 1 l one
+  first = set-changed l i (k .work)
+
+  second : Changed (stateAt i) 1 one two
+  second = set-changed one (stateAt i) (k .state)
+
+  two-long : length two ≡ 1702
+  two-long = second .long ∙ first .long ∙ hl
+
+  third : Changed (dueAt i) 4 two three
+  unfolding bytesOf
+  third = put-changed (dueAt i) 4 two (dueCell k) (omega (arith, two-long)) refl
+
+  three-long : length three ≡ 1702
+  three-long = third .long ∙ two-long
+
+  fourth : Changed (cellAt i) 10 three four
   unfolding taskCell bytesOf
-  cell-changed = put-changed (cellAt i) 15 l (taskCell k) (omega arith) refl
+  fourth = put-changed (cellAt i) 10 three (taskCell k) (omega (arith, three-long)) refl
 
-  tasks-cell : view (putMid (cellAt i) 15 l (taskCell k)) .tasks ≡ set (view l .tasks) i (withWork (getD l i 0) k)
-  unfolding view taskCell bytesOf
-  tasks-cell =
-      array-put 32 15 32 l (taskCell k) i (omega arith) refl h (λ j. taskIn (getD l j 0)) (λ j. taskIn (getD (putMid (cellAt i) 15 l (taskCell k)) j 0)) (λ j p. ap taskIn (cell-changed .rest j (inl (omega arith))))
-      ∙ ap (set (view l .tasks) i) (task-back (getD l i 0) k f)
+  -- Together they lie within the tasks.
+  whole : Changed 0 512 l four
+  whole = record { long = fourth .long ∙ three-long ∙ sym hl; rest = λ j o. rest j o }
+    where
+      rest : (j : ℕ) → (j < 0) ⊎ (0 + 512 ≤ j) → getD four j 0 ≡ getD l j 0
+      rest j (inl p) = absurd (omega arith)
+      rest j (inr p) = fourth .rest j (inr (omega arith)) ∙ third .rest j (inr (omega arith)) ∙ second .rest j (inr (omega arith)) ∙ first .rest j (inr (omega arith))
 
-  store-cell : view (putMid (cellAt i) 15 l (taskCell k)) ≡ withTask i (withWork (getD l i 0) k) (view l)
-  store-cell = frame 0 512 hl cell-changed (omega arith) (omega arith) ∙ rw tasks-cell
+  others : (j : ℕ) → j < 32 → (j ≡ i → ⊥) → taskAt j four ≡ taskAt j l
+  unfolding taskAt
+  others j p o = rw (work, state, due, cell)
+    where
+      work : getD four j 0 ≡ getD l j 0
+      work = fourth .rest j (inl (omega arith)) ∙ third .rest j (inl (omega arith)) ∙ second .rest j (inl (omega arith)) ∙ getD-set-other l i j (k .work) 0 o
 
-pub store-task : (l : List ℕ) (i : ℕ) (k : Task) → Image l → i < 32 → Fitting k → view (putMid (cellAt i) 15 (set l i (k .work)) (taskCell k)) ≡ withTask i k (view l)
-store-task l i k hl h f =
-    let s : List ℕ = set l i (k .work) in
-    let e : getD s i 0 ≡ k .work = getD-set-same l i (k .work) 0 (omega arith) in
-    store-cell s i k (length-set l i (k .work) ∙ hl) h f
-    ∙ ap₂ (λ (w : ℕ) (t : Table). withTask i (withWork w k) t) e (store-work l i (k .work) hl h)
-    ∙ rw set-set
+      state : getD four (stateAt j) 0 ≡ getD l (stateAt j) 0
+      state =
+          fourth .rest (stateAt j) (inl (omega arith))
+          ∙ third .rest (stateAt j) (inl (omega arith))
+          ∙ getD-set-other one (stateAt i) (stateAt j) (k .state) 0 (λ e. o (omega arith))
+          ∙ first .rest (stateAt j) (inr (omega arith))
+
+      due : wordAt 4 (dueAt j) four ≡ wordAt 4 (dueAt j) l
+      due =
+          word-kept fourth (dueAt j) 4 (inl (omega arith))
+          ∙ word-kept third (dueAt j) 4 (rows-apart 64 4 i j o)
+          ∙ word-kept second (dueAt j) 4 (inr (omega arith))
+          ∙ word-kept first (dueAt j) 4 (inr (omega arith))
+
+      cell : part (cellAt j) 10 four ≡ part (cellAt j) 10 l
+      cell =
+          part-kept fourth (cellAt j) 10 (rows-apart 192 10 i j o) (omega (arith, three-long))
+          ∙ part-kept third (cellAt j) 10 (inr (omega arith)) (omega (arith, two-long))
+          ∙ part-kept second (cellAt j) 10 (inr (omega arith)) (omega (arith, first .long))
+          ∙ part-kept first (cellAt j) 10 (inr (omega arith)) (omega arith)
+
+  itself : taskAt i four ≡ k
+  unfolding taskAt taskCell bytesOf
+  itself = rw (work, state, due, put-there (cellAt i) 10 three (taskCell k) (omega (arith, three-long)) refl) (task-back k f)
+    where
+      work : getD four i 0 ≡ k .work
+      work = fourth .rest i (inl (omega arith)) ∙ third .rest i (inl (omega arith)) ∙ second .rest i (inl (omega arith)) ∙ getD-set-same l i (k .work) 0 (omega arith)
+
+      state : getD four (stateAt i) 0 ≡ k .state
+      state = fourth .rest (stateAt i) (inl (omega arith)) ∙ third .rest (stateAt i) (inl (omega arith)) ∙ getD-set-same one (stateAt i) (k .state) 0 (omega (arith, first .long))
+
+      due : wordAt 4 (dueAt i) four ≡ k .due
+      due =
+          word-kept fourth (dueAt i) 4 (inl (omega arith))
+          ∙ word-back 4 (k .due) (dueAt i) three (f .due) (put-there (dueAt i) 4 two (dueCell k) (omega (arith, two-long)) refl)
+
+  tasks-put : view four .tasks ≡ set (view l .tasks) i k
+  unfolding view
+  tasks-put = tabulate-set 32 _ _ i h others ∙ ap (set (view l .tasks) i) itself
+
+  pub store-task : view four ≡ withTask i k (view l)
+  store-task = frame 0 512 hl whole (omega arith) (omega arith) ∙ rw tasks-put
 
 -- ---- the other setters
 

@@ -14,9 +14,15 @@ use Rattle.table.specs.Parts.{part, tabulate, wordAt, bytesOf}
 abbrev pub imageSize : ℕ
 imageSize = 1702
 
--- 32 working priorities, 32 cells of a task's other fields, 16 semaphores, 16 mutexes, 33 queues of 32 slots.
+-- 32 working priorities, 32 states, 32 due marks, 32 cells of a task's other fields, 16 semaphores, 16 mutexes, 33 queues of 32 slots.
+abbrev pub stateAt : ℕ → ℕ
+stateAt i = 32 + i
+
+abbrev pub dueAt : ℕ → ℕ
+dueAt i = 64 + i * 4
+
 abbrev pub cellAt : ℕ → ℕ
-cellAt i = 32 + i * 15
+cellAt i = 192 + i * 10
 
 abbrev pub semaphoreAt : ℕ → ℕ
 semaphoreAt s = 512 + s * 5
@@ -41,8 +47,9 @@ Image l = length l ≡ imageSize
 
 -- ---- what a cell shows, and the cell that shows it
 
-unfoldable pub taskIn : ℕ → List ℕ → Task
-taskIn work b =
+-- A task, of its working priority, its state, its due mark and the cell of its other fields.
+unfoldable pub taskIn : (work state due : ℕ) → List ℕ → Task
+taskIn work state due b =
     record {
       used = getD b 0 0;
       base = getD b 1 0;
@@ -50,16 +57,18 @@ taskIn work b =
       suspend = getD b 2 0;
       quantum = wordAt 2 3 b;
       left = wordAt 2 5 b;
-      state = getD b 7 0;
-      object = getD b 8 0;
-      marked = getD b 9 0;
-      due = wordAt 4 10 b;
-      outcome = getD b 14 0;
+      state = state;
+      object = getD b 7 0;
+      marked = getD b 8 0;
+      due = due;
+      outcome = getD b 9 0;
     }
 
 unfoldable pub taskCell : Task → List ℕ
-taskCell k =
-    k .used ∷ k .base ∷ k .suspend ∷ (bytesOf 2 (k .quantum) ++ (bytesOf 2 (k .left) ++ (k .state ∷ k .object ∷ k .marked ∷ (bytesOf 4 (k .due) ++ (k .outcome ∷ [])))))
+taskCell k = k .used ∷ k .base ∷ k .suspend ∷ (bytesOf 2 (k .quantum) ++ (bytesOf 2 (k .left) ++ (k .object ∷ k .marked ∷ k .outcome ∷ [])))
+
+abbrev pub dueCell : Task → List ℕ
+dueCell k = bytesOf 4 (k .due)
 
 unfoldable pub semaphoreIn : List ℕ → Semaphore
 semaphoreIn b = record { used = getD b 0 0; count = wordAt 4 1 b }
@@ -81,10 +90,13 @@ pub record Fitting (k : Task) : Type 0 where
 
 -- ---- the table that an image shows
 
+unfoldable pub taskAt : ℕ → List ℕ → Task
+taskAt i l = taskIn (getD l i 0) (getD l (stateAt i) 0) (wordAt 4 (dueAt i) l) (part (cellAt i) 10 l)
+
 unfoldable pub view : List ℕ → Table
 view l =
     record {
-      tasks = tabulate 32 (λ i. taskIn (getD l i 0) (part (cellAt i) 15 l));
+      tasks = tabulate 32 (λ i. taskAt i l);
       semaphores = tabulate 16 (λ s. semaphoreIn (part (semaphoreAt s) 5 l));
       mutexes = tabulate 16 (λ m. mutexIn (part (mutexAt m) 3 l));
       queues = tabulate 33 (λ q. part (queueAt q) 32 l);

@@ -11,7 +11,7 @@ use Rattle.rules.specs.declared.Task.{Task}
 use Rattle.rules.specs.Table.{Table, taskOf, semaphoreOf, mutexOf, queueOf}
 use Rattle.rules.specs.Tape.{Bytes}
 use Rattle.table.specs.Parts.{part, tabulate, wordAt, bytesOf}
-use Rattle.table.specs.Image.{Image, cellAt, semaphoreAt, mutexAt, queueAt, tickAt, depthAt, runningAt, taskIn, taskCell, semaphoreIn, semaphoreCell, mutexIn, mutexCell, view}
+use Rattle.table.specs.Image.{Image, stateAt, dueAt, cellAt, semaphoreAt, mutexAt, queueAt, tickAt, depthAt, runningAt, taskIn, taskCell, dueCell, taskAt, semaphoreIn, semaphoreCell, mutexIn, mutexCell, view}
 use Rattle.rules.specs.Afresh.{lt-or-le}
 use Rattle.table.specs.PartLaws.{part-at, part-most, tabulate-at, tabulate-same}
 use Rattle.table.specs.Shape.{view-task, view-semaphore, view-mutex, view-queue, view-tick, view-depth, view-running}
@@ -35,9 +35,9 @@ word-forth (suc w) a l h =
     (ap (bytesOf w) high ∙ word-forth w (suc a) l h ∙ tabulate-same w _ _ (λ i p. ap (λ (j : ℕ). getD l j 0) (suc-add a i ∙ sym (add-suc a i))))
 
 module _ (b : List ℕ) (h : Bytes b) where
-  task-forth : (work : ℕ) → taskCell (taskIn work b) ≡ spelled 0 15 b
+  task-forth : (work state due : ℕ) → taskCell (taskIn work state due b) ≡ spelled 0 10 b
   unfolding taskCell taskIn spelled tabulate
-  task-forth work = rw (word-forth 2 3 b h, word-forth 2 5 b h, word-forth 4 10 b h)
+  task-forth work state due = rw (word-forth 2 3 b h, word-forth 2 5 b h)
 
   semaphore-forth : semaphoreCell (semaphoreIn b) ≡ spelled 0 5 b
   unfolding semaphoreCell semaphoreIn spelled tabulate
@@ -77,17 +77,26 @@ module _ (l m : List ℕ) (hl : Image l) (hm : Image m) (bl : Bytes l) (bm : Byt
   from-part : (a n i : ℕ) → i < n → spelled 0 n (part a n l) ≡ spelled 0 n (part a n m) → (j : ℕ) → j ≡ a + i → Same j
   from-part a n i h g = from-spelled a n i h (sym (spelled-part a n l) ∙ g ∙ spelled-part a n m)
 
-  task-same : (i : ℕ) → i < 32 → taskIn (getD l i 0) (part (cellAt i) 15 l) ≡ taskIn (getD m i 0) (part (cellAt i) 15 m)
+  task-same : (i : ℕ) → i < 32 → taskAt i l ≡ taskAt i m
   task-same i h = sym (view-task l i h) ∙ ap (λ (t : Table). taskOf t i) e ∙ view-task m i h
 
   work-byte : (i : ℕ) → i < 32 → Same i
-  unfolding taskIn
+  unfolding taskAt taskIn
   work-byte i h = ap (λ (k : Task). k .work) (task-same i h)
 
-  cell-byte : (i n : ℕ) → i < 32 → n < 15 → (j : ℕ) → j ≡ cellAt i + n → Same j
+  state-byte : (i : ℕ) → i < 32 → (j : ℕ) → j ≡ stateAt i → Same j
+  unfolding taskAt taskIn
+  state-byte i h j p = rw p (ap (λ (k : Task). k .state) (task-same i h))
+
+  due-byte : (i n : ℕ) → i < 32 → n < 4 → (j : ℕ) → j ≡ dueAt i + n → Same j
+  unfolding taskAt taskIn
+  due-byte i n h p = from-spelled (dueAt i) 4 n p (sym (word-forth 4 (dueAt i) l bl) ∙ ap dueCell (task-same i h) ∙ word-forth 4 (dueAt i) m bm)
+
+  cell-byte : (i n : ℕ) → i < 32 → n < 10 → (j : ℕ) → j ≡ cellAt i + n → Same j
+  unfolding taskAt
   cell-byte i n h p =
-      from-part (cellAt i) 15 n p
-      (sym (task-forth (part (cellAt i) 15 l) (part-bytes (cellAt i) 15 l bl) (getD l i 0)) ∙ ap taskCell (task-same i h) ∙ task-forth (part (cellAt i) 15 m) (part-bytes (cellAt i) 15 m bm) (getD m i 0))
+      from-part (cellAt i) 10 n p
+      (sym (task-forth (part (cellAt i) 10 l) (part-bytes (cellAt i) 10 l bl) _ _ _) ∙ ap taskCell (task-same i h) ∙ task-forth (part (cellAt i) 10 m) (part-bytes (cellAt i) 10 m bm) _ _ _)
 
   semaphore-byte : (s n : ℕ) → s < 16 → n < 5 → (j : ℕ) → j ≡ semaphoreAt s + n → Same j
   semaphore-byte s n h p =
@@ -117,12 +126,14 @@ module _ (l m : List ℕ) (hl : Image l) (hm : Image m) (bl : Bytes l) (bm : Byt
   byte : (j : ℕ) → j < 1702 → Same j
   byte j h =
       below j 32 (work-byte j) (λ p.
-      below j 512 (λ q. cell-byte ((j - 32) / 15) ((j - 32) % 15) (omega arith) (omega arith) j (omega arith)) (λ p.
+      below j 64 (λ q. state-byte (j - 32) (omega arith) j (omega arith)) (λ p.
+      below j 192 (λ q. due-byte ((j - 64) / 4) ((j - 64) % 4) (omega arith) (omega arith) j (omega arith)) (λ p.
+      below j 512 (λ q. cell-byte ((j - 192) / 10) ((j - 192) % 10) (omega arith) (omega arith) j (omega arith)) (λ p.
       below j 592 (λ q. semaphore-byte ((j - 512) / 5) ((j - 512) % 5) (omega arith) (omega arith) j (omega arith)) (λ p.
       below j 640 (λ q. mutex-byte ((j - 592) / 3) ((j - 592) % 3) (omega arith) (omega arith) j (omega arith)) (λ p.
       below j 1696 (λ q. queue-byte ((j - 640) / 32) ((j - 640) % 32) (omega arith) (omega arith) j (omega arith)) (λ p.
       below j 1700 (λ q. tick-byte (j - 1696) (omega arith) j (omega arith)) (λ p.
-      below j 1701 (λ q. depth-byte j (omega arith)) (λ p. running-byte j (omega arith))))))))
+      below j 1701 (λ q. depth-byte j (omega arith)) (λ p. running-byte j (omega arith))))))))))
 
   pub lossless : l ≡ m
   lossless = ext-getD 0 l m (hl ∙ sym hm) (λ j p. byte j (subst (λ (z : ℕ). j < z) hl p))

@@ -7,13 +7,13 @@ use lib.ListN.{length, getD, replicate}
 use Rattle.rules.specs.Table.{taskOf, semaphoreOf, mutexOf, queueOf, noTask, noSemaphore, noMutex, freshTable}
 use Rattle.rules.specs.Sound.{Shaped}
 use Rattle.table.specs.Parts.{part, tabulate, wordAt}
-use Rattle.table.specs.Image.{Image, cellAt, semaphoreAt, mutexAt, queueAt, tickAt, depthAt, runningAt, taskIn, semaphoreIn, mutexIn, view}
+use Rattle.table.specs.Image.{Image, semaphoreAt, mutexAt, queueAt, tickAt, depthAt, runningAt, taskIn, taskAt, semaphoreIn, mutexIn, view}
 use Rattle.table.specs.PartLaws.{part-length, tabulate-at, tabulate-length}
 
 -- ---- what the view shows
 
 module _ (l : List ℕ) where
-  pub view-task : (i : ℕ) → i < 32 → taskOf (view l) i ≡ taskIn (getD l i 0) (part (cellAt i) 15 l)
+  pub view-task : (i : ℕ) → i < 32 → taskOf (view l) i ≡ taskAt i l
   unfolding view
   view-task i h = tabulate-at 32 _ i noTask h
 
@@ -52,5 +52,5 @@ view-shaped l h = record { tasks = tabulate-length 32 _; semaphores = tabulate-l
 
 -- The image of zeros is the fresh table.
 pub fresh-view : view (replicate 1702 0) ≡ freshTable
-unfolding view freshTable tabulate taskIn semaphoreIn mutexIn part wordAt
+unfolding view freshTable tabulate taskAt taskIn semaphoreIn mutexIn part wordAt
 fresh-view = refl

@@ -1,6 +1,6 @@
 -- Words and cells: what is written shows. Assumes nothing.
 use mathlib.Core.Path.{_≡_, refl, sym, ap, ap₂, subst, _∙_}
-use mathlib.Core.List.{List, _∷_}
+use mathlib.Core.List.{List, [], _∷_}
 use Prim.Native.Nat.{ℕ, zero, suc, _+_, _*_, _<_, _%_, _/_, _^_}
 use native.Mathlib.Nat.{zero-add, add-zero, add-suc, suc-add, pow-suc}
 use native.Mathlib.Omega.{arith}
@@ -8,7 +8,6 @@ use lib.ListN.{getD}
 use Rattle.rules.specs.declared.Task.{Task}
 use Rattle.rules.specs.declared.Semaphore.{Semaphore}
 use Rattle.rules.specs.declared.Mutex.{Mutex}
-use Rattle.rules.specs.Table.{withWork}
 use Rattle.table.specs.Parts.{part, wordAt, bytesOf}
 use Rattle.table.specs.Image.{Fitting, taskIn, taskCell, semaphoreIn, semaphoreCell, mutexIn, mutexCell}
 use Rattle.table.specs.PartLaws.{part-at}
@@ -40,11 +39,20 @@ word-back w n a l h e =
     word-agree w a 0 (bytesOf w n) l (λ i p. sym (part-at a w l i p) ∙ ap (λ (z : List ℕ). getD z i 0) e ∙ ap (λ (z : ℕ). getD (bytesOf w n) z 0) (sym (zero-add i)))
     ∙ word-of-bytes w n h
 
+-- Four bytes in a row.
+pub word-row : (l : List ℕ) (a : ℕ) → wordAt 4 0 (getD l a 0 ∷ getD l (a + 1) 0 ∷ getD l (a + 2) 0 ∷ getD l (a + 3) 0 ∷ []) ≡ wordAt 4 a l
+unfolding wordAt
+word-row l a =
+    let one : a + 1 ≡ suc a = omega arith in
+    let two : a + 2 ≡ suc (suc a) = omega arith in
+    let three : a + 3 ≡ suc (suc (suc a)) = omega arith in
+    rw (one, two, three)
+
 -- ---- there and back
 
-pub task-back : (work : ℕ) (k : Task) → Fitting k → taskIn work (taskCell k) ≡ withWork work k
+pub task-back : (k : Task) → Fitting k → taskIn (k .work) (k .state) (k .due) (taskCell k) ≡ k
 unfolding taskIn taskCell part bytesOf
-task-back work k f = rw (word-back 2 (k .quantum) 3 (taskCell k) (f .quantum) refl, word-back 2 (k .left) 5 (taskCell k) (f .left) refl, word-back 4 (k .due) 10 (taskCell k) (f .due) refl)
+task-back k f = rw (word-back 2 (k .quantum) 3 (taskCell k) (f .quantum) refl, word-back 2 (k .left) 5 (taskCell k) (f .left) refl)
 
 pub semaphore-back : (x : Semaphore) → x .count < 4294967296 → semaphoreIn (semaphoreCell x) ≡ x
 unfolding semaphoreIn semaphoreCell part bytesOf

@@ -15,19 +15,24 @@ use Rattle.rules.specs.Sizes.{taskCount, semaphoreCount, mutexCount, waitsSemap
 use Rattle.rules.specs.Table.{Table, taskOf, semaphoreOf, mutexOf, queueOf, queueCount, noTask, noSemaphore, noMutex, works}
 use Rattle.rules.specs.Sound.{Each, Shaped, objectsIn, marksIn, TaskInRange, Sound}
 use Rattle.table.specs.Parts.{part, joined, wordAt, bytesOf}
-use Rattle.table.specs.Image.{Image, Fitting, cellAt, semaphoreAt, mutexAt, queueAt, tickAt, depthAt, runningAt, taskIn, taskCell, semaphoreIn, semaphoreCell, mutexIn, mutexCell, view}
+use Rattle.table.specs.Image.{Image, Fitting, stateAt, dueAt, cellAt, semaphoreAt, mutexAt, queueAt, tickAt, depthAt, runningAt, taskIn, taskCell, dueCell, taskAt, semaphoreIn, semaphoreCell, mutexIn, mutexCell, view}
 use Rattle.table.specs.Words.{word-back, task-back, semaphore-back, mutex-back}
 use Rattle.table.specs.Pieces.{Stands, here, past, stands, part-there, number-there, joined-long, piece-there, cells-long, cell-there, tabulate-back, all-at, all-by, all-append, all-joined, all-cells}
 use Rattle.table.specs.Shape.{view-task, view-semaphore, view-mutex, view-queue, view-shaped}
 use Rattle.rules.specs.Tape.{Bytes}
 use Rattle.table.specs.Lossless.{part-bytes, lossless}
 
--- The working priorities, the cells of the tasks, of the semaphores and of the mutexes, the queues, the tick counter, and
--- the lock depth with the running task.
+abbrev states : Table → List ℕ
+states t = map (λ k. k .state) (t .tasks)
+
+-- The working priorities, the states, the due marks, the cells of the tasks, of the semaphores and of the mutexes, the queues, the
+-- tick counter, and the lock depth with the running task.
 unfoldable pub imageOf : Table → List ℕ
 imageOf t =
     joined
     (works t
+    ∷ states t
+    ∷ joined (map dueCell (t .tasks))
     ∷ joined (map taskCell (t .tasks))
     ∷ joined (map semaphoreCell (t .semaphores))
     ∷ joined (map mutexCell (t .mutexes))
@@ -107,19 +112,19 @@ word-small zero a l h = omega arith
 word-small (suc w) a l h = rw (pow-suc 256 w) (omega (arith, h a, word-small w (suc a) l h))
 
 module _ (b : List ℕ) (h : Bytes b) where
-  task-in-fits : (work : ℕ) → work < 256 → TaskFits (taskIn work b)
+  task-in-fits : (work state due : ℕ) → work < 256 → state < 256 → due < 4294967296 → TaskFits (taskIn work state due b)
   unfolding taskIn
-  task-in-fits work p =
+  task-in-fits work state due p q g =
       record {
-        words = record { quantum = word-small 2 3 b h; left = word-small 2 5 b h; due = word-small 4 10 b h };
+        words = record { quantum = word-small 2 3 b h; left = word-small 2 5 b h; due = g };
         used = h 0;
         base = h 1;
         work = p;
         suspend = h 2;
-        state = h 7;
-        object = h 8;
-        marked = h 9;
-        outcome = h 14;
+        state = q;
+        object = h 7;
+        marked = h 8;
+        outcome = h 9;
       }
 
   semaphore-in-fits : SemaphoreFits (semaphoreIn b)
@@ -131,11 +136,11 @@ module _ (b : List ℕ) (h : Bytes b) where
   mutex-in-fits = record { used = h 0; holder = h 1; nesting = h 2 }
 
 pub view-fits : (l : List ℕ) → Image l → Bytes l → Fits (view l)
-unfolding view
+unfolding view taskAt
 view-fits l hl h =
     record {
       shaped = view-shaped l hl;
-      tasks = λ i p. subst TaskFits (sym (view-task l i p)) (task-in-fits (part (cellAt i) 15 l) (part-bytes (cellAt i) 15 l h) (getD l i 0) (h i));
+      tasks = λ i p. subst TaskFits (sym (view-task l i p)) (task-in-fits (part (cellAt i) 10 l) (part-bytes (cellAt i) 10 l h) _ _ _ (h i) (h (stateAt i)) (word-small 4 (dueAt i) l h));
       semaphores = λ s p. subst SemaphoreFits (sym (view-semaphore l s p)) (semaphore-in-fits (part (semaphoreAt s) 5 l) (part-bytes (semaphoreAt s) 5 l h));
       mutexes = λ m p. subst MutexFits (sym (view-mutex l m p)) (mutex-in-fits (part (mutexAt m) 3 l) (part-bytes (mutexAt m) 3 l h));
       queues = λ q p. subst Bytes (sym (view-queue l q p)) (part-bytes (queueAt q) 32 l h);
@@ -151,7 +156,10 @@ unfolding bytesOf
 bytes-long zero n = refl
 bytes-long (suc w) n = ap suc (bytes-long w (n / 256))
 
-task-long : (k : Task) → length (taskCell k) ≡ 15
+due-long : (k : Task) → length (dueCell k) ≡ 4
+due-long k = bytes-long 4 (k .due)
+
+task-long : (k : Task) → length (taskCell k) ≡ 10
 unfolding taskCell bytesOf
 task-long k = refl
 
@@ -176,8 +184,7 @@ unfolding taskCell
 task-small k f =
     more (f .used) (more (f .base) (more (f .suspend)
     (all-append (bytes-small 2 (k .quantum)) (all-append (bytes-small 2 (k .left))
-    (more (f .state) (more (f .object) (more (f .marked)
-    (all-append (bytes-small 4 (k .due)) (more (f .outcome) none)))))))))
+    (more (f .object) (more (f .marked) (more (f .outcome) none)))))))
 
 semaphore-small : (x : Semaphore) → SemaphoreFits x → All Byte (semaphoreCell x)
 unfolding semaphoreCell
@@ -194,8 +201,14 @@ module _ {t : Table} (f : Fits t) where
   unfolding works
   works-long = length-map (t .tasks) (λ k. k .work) ∙ f .shaped .tasks
 
-  tasks-long : length (joined (map taskCell (t .tasks))) ≡ 480
-  tasks-long = cells-long taskCell 15 noTask task-long (t .tasks) ∙ ap (λ (z : ℕ). z * 15) (f .shaped .tasks)
+  states-long : length (states t) ≡ 32
+  states-long = length-map (t .tasks) (λ k. k .state) ∙ f .shaped .tasks
+
+  dues-long : length (joined (map dueCell (t .tasks))) ≡ 128
+  dues-long = cells-long dueCell 4 noTask due-long (t .tasks) ∙ ap (λ (z : ℕ). z * 4) (f .shaped .tasks)
+
+  tasks-long : length (joined (map taskCell (t .tasks))) ≡ 320
+  tasks-long = cells-long taskCell 10 noTask task-long (t .tasks) ∙ ap (λ (z : ℕ). z * 10) (f .shaped .tasks)
 
   semaphores-long : length (joined (map semaphoreCell (t .semaphores))) ≡ 80
   semaphores-long = cells-long semaphoreCell 5 noSemaphore semaphore-long (t .semaphores) ∙ ap (λ (z : ℕ). z * 5) (f .shaped .semaphores)
@@ -211,7 +224,7 @@ module _ {t : Table} (f : Fits t) where
 
   pub image-length : Image (imageOf t)
   unfolding imageOf joined
-  image-length = simp length-append (omega (arith, works-long, tasks-long, semaphores-long, mutexes-long, queues-long, bytes-long 4 (t .tick)))
+  image-length = simp length-append (omega (arith, works-long, states-long, dues-long, tasks-long, semaphores-long, mutexes-long, queues-long, bytes-long 4 (t .tick)))
 
   -- ---- where things stand in it
 
@@ -219,29 +232,37 @@ module _ {t : Table} (f : Fits t) where
   unfolding imageOf
   at-works = stands here
 
-  at-tasks : Stands 32 (joined (map taskCell (t .tasks))) (imageOf t)
+  at-states : Stands 32 (states t) (imageOf t)
   unfolding imageOf
-  at-tasks = stands (past works-long here)
+  at-states = stands (past works-long here)
+
+  at-dues : Stands 64 (joined (map dueCell (t .tasks))) (imageOf t)
+  unfolding imageOf
+  at-dues = stands (past works-long (past states-long here))
+
+  at-tasks : Stands 192 (joined (map taskCell (t .tasks))) (imageOf t)
+  unfolding imageOf
+  at-tasks = stands (past works-long (past states-long (past dues-long here)))
 
   at-semaphores : Stands 512 (joined (map semaphoreCell (t .semaphores))) (imageOf t)
   unfolding imageOf
-  at-semaphores = stands (past works-long (past tasks-long here))
+  at-semaphores = stands (past works-long (past states-long (past dues-long (past tasks-long here))))
 
   at-mutexes : Stands 592 (joined (map mutexCell (t .mutexes))) (imageOf t)
   unfolding imageOf
-  at-mutexes = stands (past works-long (past tasks-long (past semaphores-long here)))
+  at-mutexes = stands (past works-long (past states-long (past dues-long (past tasks-long (past semaphores-long here)))))
 
   at-queues : Stands 640 (joined (t .queues)) (imageOf t)
   unfolding imageOf
-  at-queues = stands (past works-long (past tasks-long (past semaphores-long (past mutexes-long here))))
+  at-queues = stands (past works-long (past states-long (past dues-long (past tasks-long (past semaphores-long (past mutexes-long here))))))
 
   at-tick : Stands tickAt (bytesOf 4 (t .tick)) (imageOf t)
   unfolding imageOf
-  at-tick = stands (past works-long (past tasks-long (past semaphores-long (past mutexes-long (past queues-long here)))))
+  at-tick = stands (past works-long (past states-long (past dues-long (past tasks-long (past semaphores-long (past mutexes-long (past queues-long here)))))))
 
   at-depth : Stands depthAt (t .depth ∷ t .running ∷ []) (imageOf t)
   unfolding imageOf
-  at-depth = stands (past works-long (past tasks-long (past semaphores-long (past mutexes-long (past queues-long (past (bytes-long 4 (t .tick)) here))))))
+  at-depth = stands (past works-long (past states-long (past dues-long (past tasks-long (past semaphores-long (past mutexes-long (past queues-long (past (bytes-long 4 (t .tick)) here))))))))
 
   -- ---- what it shows
 
@@ -252,10 +273,19 @@ module _ {t : Table} (f : Fits t) where
       ∙ number-there at-works i (omega (arith, works-long))
       ∙ List·getD-map (λ k. k .work) (t .tasks) i noTask
 
-  task-shown : (i : ℕ) → i < 32 → taskIn (getD (imageOf t) i 0) (part (cellAt i) 15 (imageOf t)) ≡ taskOf t i
+  state-shown : (i : ℕ) → i < 32 → getD (imageOf t) (stateAt i) 0 ≡ taskOf t i .state
+  state-shown i h = number-there at-states i (omega (arith, states-long)) ∙ List·getD-map (λ k. k .state) (t .tasks) i noTask
+
+  task-shown : (i : ℕ) → i < 32 → taskAt i (imageOf t) ≡ taskOf t i
+  unfolding taskAt
   task-shown i h =
-      ap₂ taskIn (work-shown i h) (cell-there taskCell 15 noTask task-long (t .tasks) at-tasks i (omega arith))
-      ∙ task-back (taskOf t i .work) (taskOf t i) (f .tasks i h .words)
+      rw (
+        work-shown i h,
+        state-shown i h,
+        word-back 4 (taskOf t i .due) (dueAt i) (imageOf t) (f .tasks i h .words .due) (cell-there dueCell 4 noTask due-long (t .tasks) at-dues i (omega arith)),
+        cell-there taskCell 10 noTask task-long (t .tasks) at-tasks i (omega arith),
+      )
+      (task-back (taskOf t i) (f .tasks i h .words))
 
   semaphore-shown : (s : ℕ) → s < 16 → semaphoreIn (part (semaphoreAt s) 5 (imageOf t)) ≡ semaphoreOf t s
   semaphore-shown s h =
@@ -289,17 +319,22 @@ module _ {t : Table} (f : Fits t) where
   unfolding works
   works-small = all-by (works t) (λ i h. let p : i < 32 = omega (arith, works-long) in subst Byte (sym (List·getD-map (λ k. k .work) (t .tasks) i noTask)) (f .tasks i p .work))
 
+  states-small : All Byte (states t)
+  states-small = all-by (states t) (λ i h. let p : i < 32 = omega (arith, states-long) in subst Byte (sym (List·getD-map (λ k. k .state) (t .tasks) i noTask)) (f .tasks i p .state))
+
   pub image-bytes : Bytes (imageOf t)
   unfolding imageOf joined
   image-bytes =
       all-at (omega arith)
       (all-append works-small
+      (all-append states-small
+      (all-append (all-cells dueCell noTask (t .tasks) (λ i h. bytes-small 4 (taskOf t i .due)))
       (all-append (all-cells taskCell noTask (t .tasks) (λ i h. task-small (taskOf t i) (f .tasks i (omega arith))))
       (all-append (all-cells semaphoreCell noSemaphore (t .semaphores) (λ i h. semaphore-small (semaphoreOf t i) (f .semaphores i (omega arith))))
       (all-append (all-cells mutexCell noMutex (t .mutexes) (λ i h. mutex-small (mutexOf t i) (f .mutexes i (omega arith))))
       (all-append (all-joined [] (t .queues) (λ q h. all-by (queueOf t q) (λ j p. f .queues q (omega arith) j)))
       (all-append (bytes-small 4 (t .tick))
-      (more (f .depth) (more (f .running) none))))))))
+      (more (f .depth) (more (f .running) none))))))))))
 
 -- ---- one image
 

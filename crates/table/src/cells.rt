@@ -1,7 +1,7 @@
 // Tasks, semaphores, mutexes and numbers of the image, read and written.
 ghost use mathlib.Core.Path.{_≡_};
 ghost use mathlib.Core.List.{[], _∷_};
-ghost use Prim.Native.Nat.{_+_, _*_, _<_};
+ghost use Prim.Native.Nat.{_+_, _*_, _≤_, _<_};
 ghost use lib.ListN.{length};
 ghost use Rattle.rules.specs.Table.{noTask, taskOf, withTask, semaphoreOf, withSemaphore, mutexOf, withMutex, withTick, withDepth, withRunning};
 ghost use Rattle.table.specs.Parts.{wordAt, bytesOf};
@@ -18,15 +18,23 @@ fn le16(a: u8, b: u8) -> u16
     a as u16 + 256 * (b as u16)
 }
 
-pub fn le32(a: u8, b: u8, c: u8, d: u8) -> u32
+fn le32(a: u8, b: u8, c: u8, d: u8) -> u32
     ensures { λ r. ⌜ r ≡ wordAt 4 0 (a ∷ b ∷ c ∷ d ∷ []) ⌝ }
 {
     a as u32 + 256 * (b as u32) + 65536 * (c as u32) + 16777216 * (d as u32)
 }
 
-fn read_task(b: &[u8], work: u8) -> rules::Task
-    requires { ⌜ length (now b) ≡ 15 ⌝ }
-    ensures { λ r. ⌜ r ≡ taskIn work (now (b .entry)) ⌝ }
+pub fn four_at(b: &[u8], at: usize) -> u32
+    requires { ⌜ at + 4 ≤ length (now b) ⌝ }
+    ensures { λ r. ⌜ r ≡ wordAt 4 at (now (b .entry)) ⌝ }
+{
+    le32(b[at], b[at + 1], b[at + 2], b[at + 3])
+}
+
+// A task, from its cell and what stands apart.
+fn read_task(b: &[u8], work: u8, state: u8, due: u32) -> rules::Task
+    requires { ⌜ length (now b) ≡ 10 ⌝ }
+    ensures { λ r. ⌜ r ≡ taskIn work state due (now (b .entry)) ⌝ }
 {
     rules::Task {
         used: b[0],
@@ -35,16 +43,16 @@ fn read_task(b: &[u8], work: u8) -> rules::Task
         suspend: b[2],
         quantum: le16(b[3], b[4]),
         left: le16(b[5], b[6]),
-        state: b[7],
-        object: b[8],
-        marked: b[9],
-        due: le32(b[10], b[11], b[12], b[13]),
-        outcome: b[14],
+        state: state,
+        object: b[7],
+        marked: b[8],
+        due: due,
+        outcome: b[9],
     }
 }
 
 fn write_task(b: &mut [u8], k: rules::Task)
-    requires { ⌜ length (now b) ≡ 15 ⌝ }
+    requires { ⌜ length (now b) ≡ 10 ⌝ }
     ensures { λ _. ⌜ (now (b .exit) ≡ taskCell k) × Fitting k ⌝ }
 {
     b[0] = k.used;
@@ -54,24 +62,21 @@ fn write_task(b: &mut [u8], k: rules::Task)
     b[4] = (k.quantum / 256 % 256) as u8;
     b[5] = (k.left % 256) as u8;
     b[6] = (k.left / 256 % 256) as u8;
-    b[7] = k.state;
-    b[8] = k.object;
-    b[9] = k.marked;
-    b[10] = (k.due % 256) as u8;
-    b[11] = (k.due / 256 % 256) as u8;
-    b[12] = (k.due / 256 / 256 % 256) as u8;
-    b[13] = (k.due / 256 / 256 / 256 % 256) as u8;
-    b[14] = k.outcome;
+    b[7] = k.object;
+    b[8] = k.marked;
+    b[9] = k.outcome;
 }
 
 pub fn get_task(s: &[u8], i: usize) -> rules::Task
     requires { ⌜ (i < 32) × Image (now s) ⌝ }
     ensures { λ r. ⌜ r ≡ taskOf (view (now (s .entry))) i ⌝ }
 {
-    let a = 32 + i * 15;
-    let e = a + 15;
+    let a = 192 + i * 10;
+    let e = a + 10;
     let work = s[i];
-    read_task(&s[a..e], work)
+    let state = s[32 + i];
+    let due = four_at(s, 64 + i * 4);
+    read_task(&s[a..e], work, state, due)
 }
 
 // The working priority of task i.
@@ -112,17 +117,6 @@ pub fn task_at(s: &[u8], i: usize) -> rules::Task
     no_task()
 }
 
-// The record alone: a task changes its place through `moves::put_task`.
-pub fn set_task(s: &mut [u8], i: usize, k: rules::Task)
-    requires { ⌜ (i < 32) × Image (now s) ⌝ }
-    ensures { λ _. ⌜ view (now (s .exit)) ≡ withTask i k (view (now (s .entry))) ⌝ }
-{
-    let a = 32 + i * 15;
-    let e = a + 15;
-    s[i] = k.work;
-    write_task(&mut s[a..e], k);
-}
-
 // A number of four bytes.
 fn write_word(b: &mut [u8], n: u32)
     requires { ⌜ length (now b) ≡ 4 ⌝ }
@@ -132,6 +126,21 @@ fn write_word(b: &mut [u8], n: u32)
     b[1] = (n / 256 % 256) as u8;
     b[2] = (n / 256 / 256 % 256) as u8;
     b[3] = (n / 256 / 256 / 256 % 256) as u8;
+}
+
+// The record alone: a task changes its place through `moves::put_task`.
+pub fn set_task(s: &mut [u8], i: usize, k: rules::Task)
+    requires { ⌜ (i < 32) × Image (now s) ⌝ }
+    ensures { λ _. ⌜ view (now (s .exit)) ≡ withTask i k (view (now (s .entry))) ⌝ }
+{
+    let d = 64 + i * 4;
+    let f = d + 4;
+    let a = 192 + i * 10;
+    let e = a + 10;
+    s[i] = k.work;
+    s[32 + i] = k.state;
+    write_word(&mut s[d..f], k.due);
+    write_task(&mut s[a..e], k);
 }
 
 fn write_semaphore(b: &mut [u8], x: rules::Semaphore)

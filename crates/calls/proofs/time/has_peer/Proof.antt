@@ -1,71 +1,44 @@
-use mathlib.Core.Path.{_≡_, sym, ap, _∙_}
-use Prim.Native.Nat.{_≤_, suc, _-_}
-use native.Mathlib.Omega.{arith}
+use mathlib.Core.Path.{sym, _∙_}
 use Rattle.table.specs.Image.{view}
-use Rattle.rules.specs.Move.{peerBelow}
-use Rattle.calls.proofs.ServiceLaws.{peer-turn, peer-none}
-use Rattle.rules.specs.declared.Task.{Task}
+use Rattle.table.specs.Shape.{view-shaped}
+use Rattle.calls.proofs.PeerLaws.{alone-none, second-peer}
 use borrow.Author.Needs.{needs}
 use Rattle.calls.proofs.time.has_peer.Statement.{statement}
 use Rattle.calls.proofs.time.has_peer.Tie as tie
 use Rattle.calls.proofs.time.has_peer.Reads as reads
 use Rattle.calls.proofs.time.has_peer.Lts as lts
-use Rattle.calls.proofs.time.is_peer.Reads as is-peer-reads
-use Rattle.table.proofs.cells.task_at.Reads as task-at-reads
+use Rattle.calls.proofs.time.find_peer.Reads as find-peer-reads
+use Rattle.calls.proofs.time.is_alone.Reads as is-alone-reads
+use Rattle.calls.proofs.time.is_second_peer.Reads as is-second-peer-reads
 
-abbrev Inv-loop : tie.InvT-loop
-Inv-loop s i w j₀ j = (j ≤ 32) × (peerBelow j i (view s) ≡ peerBelow 32 i (view s))
+is-alone-requires : tie.Need-is-alone-requires
+is-alone-requires c κs = search needs
 
-abbrev μ-loop : tie.MeasureT-loop
-μ-loop s i w j₀ j = j
+returns : tie.Need-returns
+returns c = sym (alone-none _ _ (sym (c .before .is-alone .ensures) ∙ c .if1 .taken))
 
-task-at-requires : tie.Need-task-at-requires Inv-loop μ-loop
-task-at-requires c κs = search needs
+is-second-peer-requires : tie.Need-is-second-peer-requires
+is-second-peer-requires c κs = search needs
 
-loop-holds : tie.Need-loop-holds Inv-loop μ-loop
-loop-holds c = search needs
+returns-2 : tie.Need-returns-2
+returns-2 c =
+    let a = c .before .before .before .before .before in
+    let l = a .args .s .now in
+    sym (second-peer (a .args .i) (view l) (view-shaped l (a .pre) .tasks) (sym (c .before .is-second-peer .ensures) ∙ c .if2 .taken))
 
-sub-j : tie.Need-sub-j Inv-loop μ-loop
-sub-j c = search needs
+find-peer-requires : tie.Need-find-peer-requires
+find-peer-requires c κs = search needs
 
-is-peer-requires : tie.Need-is-peer-requires Inv-loop μ-loop
-is-peer-requires c κs = search needs
-
-returns : tie.Need-returns Inv-loop μ-loop
-returns c =
-    let p = c .before in
-    let l = p .before .before in
-    let s : l .loop .j ≡ suc (l .loop .j - 1) = omega arith in
-    let a = l .before .before .before .args in
-    let turn = peer-turn _ _ (a .i) _ (view (a .s .now)) s (ap (λ (k : Task). k .work) (l .before .task-at .ensures)) (p .is-peer .ensures) in
-    sym (rw (c .if1 .taken) at turn) ∙ l .loop .inv .1
-
-loop-less : tie.Need-loop-less Inv-loop μ-loop
-loop-less c = search needs
-
-loop-again : tie.Need-loop-again Inv-loop μ-loop
-loop-again c =
-    let p = c .before in
-    let l = p .before .before in
-    let s : l .loop .j ≡ suc (l .loop .j - 1) = omega arith in
-    let a = l .before .before .before .args in
-    let turn = peer-turn _ _ (a .i) _ (view (a .s .now)) s (ap (λ (k : Task). k .work) (l .before .task-at .ensures)) (p .is-peer .ensures) in
-    (omega arith, sym (rw (c .if1 .left) at turn) ∙ l .loop .inv .1)
-
-returns-2 : tie.Need-returns-2 Inv-loop μ-loop
-returns-2 c = sym (peer-none _ _ _ (c .loop-test .left)) ∙ c .before .loop .inv .1
+returns-3 : tie.Need-returns-3
+returns-3 c = search needs
 
 pub has-peer-spec : {M : Type 1} → statement M
 has-peer-spec =
     tie.close
     (tie.spec
-    Inv-loop
-    μ-loop
-    task-at-requires
-    loop-holds
-    sub-j
-    is-peer-requires
+    is-alone-requires
     returns
-    loop-less
-    loop-again
-    returns-2)
+    is-second-peer-requires
+    returns-2
+    find-peer-requires
+    returns-3)

@@ -4,7 +4,7 @@ use Rattle.sound.proofs.tasks.eight_at.Statement.{statement}
 use Rattle.sound.proofs.tasks.eight_at.Tie as tie
 use Rattle.sound.proofs.tasks.eight_at.Reads as reads
 use Rattle.sound.proofs.tasks.eight_at.Lts as lts
-use Rattle.sound.proofs.tasks.four_at.Reads as four-at-reads
+use Rattle.table.proofs.cells.four_at.Reads as four-at-reads
 use Rattle.sound.proofs.tasks.le64.Reads as le64-reads
 
 four-at-requires : tie.Need-four-at-requires

@@ -15,7 +15,7 @@ eight-at-requires-2 c κs = search needs
 returns : tie.Need-returns
 returns c =
     let a = c .before .before .before .args in
-    rw (c .before .eight-at .ensures, c .eight-at2 .ensures) (blank-cell (a .work) (a .b .now))
+    rw (c .before .eight-at .ensures, c .eight-at2 .ensures) (blank-cell (a .work) (a .state) (a .due) (a .b .now))
 
 pub is-blank-spec : {M : Type 1} → statement M
 is-blank-spec = tie.close (tie.spec eight-at-requires eight-at-requires-2 returns)

@@ -1,10 +1,10 @@
-use mathlib.Core.Path.{sym, ap, _∙_}
+use mathlib.Core.Path.{sym, ap, ap₂, _∙_}
 use mathlib.Core.List.{List}
 use Prim.Native.Nat.{ℕ}
 use native.Mathlib.Omega.{arith}
 use lib.ListN.{getD}
 use Rattle.rules.specs.Sound.{isNoTask}
-use Rattle.table.specs.Image.{cellAt, taskIn}
+use Rattle.table.specs.Image.{stateAt, cellAt, taskIn, taskAt}
 use Rattle.table.specs.Shape.{view-task}
 use Rattle.table.proofs.Changes.{part-lent}
 use borrow.Author.Needs.{needs}
@@ -13,6 +13,7 @@ use Rattle.sound.proofs.tasks.is_free.Tie as tie
 use Rattle.sound.proofs.tasks.is_free.Reads as reads
 use Rattle.sound.proofs.tasks.is_free.Lts as lts
 use Rattle.sound.proofs.tasks.is_blank.Reads as is-blank-reads
+use Rattle.table.proofs.cells.four_at.Reads as four-at-reads
 
 mul-a : tie.Need-mul-a
 mul-a c = search needs
@@ -25,6 +26,21 @@ add-e c = search needs
 
 shared-slice-read-work : tie.Need-shared-slice-read-work
 shared-slice-read-work c = search needs
+
+add-state : tie.Need-add-state
+add-state c = search needs
+
+shared-slice-read-state : tie.Need-shared-slice-read-state
+shared-slice-read-state c = search needs
+
+mul-four-at : tie.Need-mul-four-at
+mul-four-at c = search needs
+
+add-four-at : tie.Need-add-four-at
+add-four-at c = search needs
+
+four-at-requires : tie.Need-four-at-requires
+four-at-requires c κs = search needs
 
 sub-is-blank : tie.Need-sub-is-blank
 sub-is-blank c = search needs
@@ -39,9 +55,13 @@ is-blank-requires : tie.Need-is-blank-requires
 is-blank-requires c κs = search needs
 
 returns : tie.Need-returns
+unfolding taskAt
 returns c =
-    let a = c .before .before .before .before .args in
-    c .is-blank .ensures ∙ ap (λ (b : List ℕ). isNoTask (taskIn (getD (a .s .now) (a .i) 0) b)) (part-lent (cellAt (a .i)) 15 (a .s .now)) ∙ ap isNoTask (sym (view-task (a .s .now) (a .i) (omega arith)))
+    let a = c .before .before .before .before .before .before .args in
+    let l = a .s .now in
+    c .is-blank .ensures
+    ∙ ap₂ (λ (due : ℕ) (b : List ℕ). isNoTask (taskIn (getD l (a .i) 0) (getD l (stateAt (a .i)) 0) due b)) (c .before .before .four-at .ensures) (part-lent (cellAt (a .i)) 10 l)
+    ∙ ap isNoTask (sym (view-task l (a .i) (omega arith)))
 
 pub is-free-spec : {M : Type 1} → statement M
 is-free-spec =
@@ -51,6 +71,11 @@ is-free-spec =
     add-a
     add-e
     shared-slice-read-work
+    add-state
+    shared-slice-read-state
+    mul-four-at
+    add-four-at
+    four-at-requires
     sub-is-blank
     part-is-blank-start
     part-is-blank-end

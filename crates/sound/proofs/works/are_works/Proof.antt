@@ -8,7 +8,7 @@ use Rattle.rules.specs.Table.{taskOf}
 use Rattle.rules.specs.declared.Task.{Task}
 use Rattle.rules.specs.Move.{freshIn}
 use Rattle.rules.specs.Sound.{each, isWorked}
-use Rattle.table.specs.Image.{view, taskIn}
+use Rattle.table.specs.Image.{view, taskIn, taskAt}
 use Rattle.table.specs.Shape.{view-task}
 use Rattle.sound.specs.Tests.{each-none, each-and}
 use Rattle.sound.proofs.works.are_works.Statement.{statement}
@@ -39,7 +39,7 @@ loop-less : tie.Need-loop-less Inv-loop μ-loop
 loop-less c = search needs
 
 loop-again : tie.Need-loop-again Inv-loop μ-loop
-unfolding taskIn
+unfolding taskAt taskIn
 loop-again c =
     let l = c .before .before .before .before .before .before .args .s .now in
     let t = view l in

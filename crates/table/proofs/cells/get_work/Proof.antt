@@ -1,6 +1,6 @@
 use mathlib.Core.Path.{sym, ap}
 use Rattle.rules.specs.declared.Task.{Task}
-use Rattle.table.specs.Image.{taskIn}
+use Rattle.table.specs.Image.{taskIn, taskAt}
 use Rattle.table.specs.Shape.{view-task}
 use borrow.Author.Needs.{needs}
 use Rattle.table.proofs.cells.get_work.Statement.{statement}
@@ -12,7 +12,7 @@ shared-slice-read-result : tie.Need-shared-slice-read-result
 shared-slice-read-result c = search needs
 
 returns : tie.Need-returns
-unfolding taskIn
+unfolding taskAt taskIn
 returns c =
     let a = c .before .args in
     sym (ap (λ (k : Task). k .work) (view-task (a .s .now) (a .i) (c .before .pre .0)))

@@ -1,10 +1,10 @@
-use mathlib.Core.Path.{ap, _∙_}
+use mathlib.Core.Path.{_≡_, ap, ap₂, _∙_}
 use mathlib.Core.List.{List}
 use Prim.Native.Nat.{ℕ, _+_, _-_}
 use native.Mathlib.Omega.{arith}
-use lib.ListN.{set, length-set}
+use lib.ListN.{length, set, length-set}
 use borrow.Rule.Slice.PartMut.{putMid}
-use Rattle.table.specs.Image.{cellAt, taskCell, view}
+use Rattle.table.specs.Image.{stateAt, dueAt, cellAt, taskCell, dueCell, view}
 use Rattle.table.proofs.Changes.{put-lent}
 use Rattle.table.proofs.Stores.{store-task}
 use borrow.Author.Needs.{needs}
@@ -13,6 +13,16 @@ use Rattle.table.proofs.cells.set_task.Tie as tie
 use Rattle.table.proofs.cells.set_task.Reads as reads
 use Rattle.table.proofs.cells.set_task.Lts as lts
 use Rattle.table.proofs.cells.write_task.Reads as write-task-reads
+use Rattle.table.proofs.cells.write_word.Reads as write-word-reads
+
+mul-d : tie.Need-mul-d
+mul-d c = search needs
+
+add-d : tie.Need-add-d
+add-d c = search needs
+
+add-f : tie.Need-add-f
+add-f c = search needs
 
 mul-a : tie.Need-mul-a
 mul-a c = search needs
@@ -26,6 +36,24 @@ add-e c = search needs
 slice-write-s : tie.Need-slice-write-s
 slice-write-s c = search needs
 
+add-s : tie.Need-add-s
+add-s c = search needs
+
+slice-write-s-2 : tie.Need-slice-write-s-2
+slice-write-s-2 c = simp length-set (omega arith)
+
+sub-write-word : tie.Need-sub-write-word
+sub-write-word c = search needs
+
+part-write-word-start : tie.Need-part-write-word-start
+part-write-word-start c = search needs
+
+part-write-word-end : tie.Need-part-write-word-end
+part-write-word-end c = simp length-set (omega arith)
+
+write-word-requires : tie.Need-write-word-requires
+write-word-requires c κs = search needs
+
 sub-write-task : tie.Need-sub-write-task
 sub-write-task c = search needs
 
@@ -33,33 +61,51 @@ part-write-task-start : tie.Need-part-write-task-start
 part-write-task-start c = search needs
 
 part-write-task-end : tie.Need-part-write-task-end
-part-write-task-end c = simp length-set (omega arith)
+part-write-task-end c =
+    let a = c .before .before .before .before .before .args in
+    let n : length (set (set (a .s .now) (a .i) (a .k .work)) (stateAt (a .i)) (a .k .state)) ≡ 1702 = simp length-set (omega arith) in
+    omega (arith, c .before .s .given .1, n)
 
 write-task-requires : tie.Need-write-task-requires
 write-task-requires c κs = search needs
 
 same-length : tie.Need-same-length
 same-length c =
-    let a = c .before .before .before .before .before .args in
-    c .before .s .given .1 ∙ length-set (a .s .now) (a .i) (a .k .work)
+    let d = c .before .before .before .before in
+    let a = d .before .before .before .before .before .args in
+    let n : length (set (set (a .s .now) (a .i) (a .k .work)) (stateAt (a .i)) (a .k .state)) ≡ length (a .s .now) = simp length-set in
+    c .before .s2 .given .1 ∙ d .before .s .given .1 ∙ n
 
 returns : tie.Need-returns
 returns c =
-    let a = c .before .before .before .before .before .args in
-    let w = c .before .before .write-task .ensures in
-    let s : List ℕ = set (a .s .now) (a .i) (a .k .work) in
-    ap (λ (ys : List ℕ). view (putMid (cellAt (a .i)) (cellAt (a .i) + 15 - cellAt (a .i)) s ys)) (w .0)
-    ∙ ap view (put-lent (cellAt (a .i)) 15 s (taskCell (a .k)))
-    ∙ store-task (a .s .now) (a .i) (a .k) (omega arith) (omega arith) (w .1)
+    let d = c .before .before .before .before in
+    let a = d .before .before .before .before .before .args in
+    let i = a .i in
+    let mark = d .before .before .write-word .ensures in
+    let cell = c .before .before .write-task .ensures in
+    let two : List ℕ = set (set (a .s .now) i (a .k .work)) (stateAt i) (a .k .state) in
+    ap₂ (λ (xs ys : List ℕ). view (putMid (cellAt i) (cellAt i + 10 - cellAt i) (putMid (dueAt i) (dueAt i + 4 - dueAt i) two xs) ys)) (mark .0) (cell .0)
+    ∙ ap view (put-lent (cellAt i) 10 (putMid (dueAt i) (dueAt i + 4 - dueAt i) two (dueCell (a .k))) (taskCell (a .k)))
+    ∙ ap (λ (z : List ℕ). view (putMid (cellAt i) 10 z (taskCell (a .k)))) (put-lent (dueAt i) 4 two (dueCell (a .k)))
+    ∙ store-task (a .s .now) i (a .k) (omega arith) (omega arith) (cell .1)
 
 pub set-task-spec : {M : Type 1} → statement M
 set-task-spec =
     tie.close
     (tie.spec
+    mul-d
+    add-d
+    add-f
     mul-a
     add-a
     add-e
     slice-write-s
+    add-s
+    slice-write-s-2
+    sub-write-word
+    part-write-word-start
+    part-write-word-end
+    write-word-requires
     sub-write-task
     part-write-task-start
     part-write-task-end

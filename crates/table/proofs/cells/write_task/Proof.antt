@@ -51,41 +51,14 @@ slice-write-b-9 c = simp length-set (omega arith)
 slice-write-b-10 : tie.Need-slice-write-b-10
 slice-write-b-10 c = simp length-set (omega arith)
 
-cast-b-5 : tie.Need-cast-b-5
-cast-b-5 c = search needs
-
-slice-write-b-11 : tie.Need-slice-write-b-11
-slice-write-b-11 c = simp length-set (omega arith)
-
-cast-b-6 : tie.Need-cast-b-6
-cast-b-6 c = search needs
-
-slice-write-b-12 : tie.Need-slice-write-b-12
-slice-write-b-12 c = simp length-set (omega arith)
-
-cast-b-7 : tie.Need-cast-b-7
-cast-b-7 c = search needs
-
-slice-write-b-13 : tie.Need-slice-write-b-13
-slice-write-b-13 c = simp length-set (omega arith)
-
-cast-b-8 : tie.Need-cast-b-8
-cast-b-8 c = search needs
-
-slice-write-b-14 : tie.Need-slice-write-b-14
-slice-write-b-14 c = simp length-set (omega arith)
-
-slice-write-b-15 : tie.Need-slice-write-b-15
-slice-write-b-15 c = simp length-set (omega arith)
-
 same-length : tie.Need-same-length
 same-length c = simp length-set (omega arith)
 
 returns : tie.Need-returns
 unfolding taskCell bytesOf
 returns c =
-    let a = c .before .before .before .before .before .before .before .before .args in
-    (all-stored (taskCell (a .k)) (a .b .now) (omega arith), record { quantum = omega arith; left = omega arith; due = omega (arith, c .struct-known8 .given .1 .1 .1 .1 .1 .1 .1 .1 .1 .0) })
+    let a = c .before .before .before .before .args in
+    (all-stored (taskCell (a .k)) (a .b .now) (omega arith), record { quantum = omega arith; left = omega arith; due = omega (arith, c .struct-known4 .given .1 .1 .1 .1 .1 .1 .1 .1 .1 .0) })
 
 pub write-task-spec : {M : Type 1} → statement M
 write-task-spec =
@@ -105,14 +78,5 @@ write-task-spec =
     slice-write-b-8
     slice-write-b-9
     slice-write-b-10
-    cast-b-5
-    slice-write-b-11
-    cast-b-6
-    slice-write-b-12
-    cast-b-7
-    slice-write-b-13
-    cast-b-8
-    slice-write-b-14
-    slice-write-b-15
     same-length
     returns)

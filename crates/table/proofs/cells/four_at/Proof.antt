@@ -1,11 +1,11 @@
 use mathlib.Core.Path.{_∙_}
-use Rattle.sound.proofs.Blank.{word-row}
+use Rattle.table.specs.Words.{word-row}
 use borrow.Author.Needs.{needs}
-use Rattle.sound.proofs.tasks.four_at.Statement.{statement}
-use Rattle.sound.proofs.tasks.four_at.Tie as tie
-use Rattle.sound.proofs.tasks.four_at.Reads as reads
-use Rattle.sound.proofs.tasks.four_at.Lts as lts
+use Rattle.table.proofs.cells.four_at.Statement.{statement}
+use Rattle.table.proofs.cells.four_at.Tie as tie
+use Rattle.table.proofs.cells.four_at.Reads as reads
+use Rattle.table.proofs.cells.four_at.Lts as lts
 use Rattle.table.proofs.cells.le32.Reads as le32-reads
 
 shared-slice-read-le32 : tie.Need-shared-slice-read-le32
 shared-slice-read-le32 c = search needs

@@ -1,0 +1,68 @@
+use borrow.Author.Needs.{needs}
+use mathlib.Core.Path.{_≡_, ap, _∙_}
+use Prim.Native.Nat.{_-_, _≤_}
+use native.Mathlib.Nat.{le-antisymm}
+use native.Mathlib.Omega.{arith}
+use Rattle.rules.specs.Sound.{once}
+use Rattle.rules.specs.Tested.{once-most}
+use Rattle.rules.specs.declared.Task.{Task}
+use Rattle.rules.specs.Table.{taskOf}
+use Rattle.table.specs.Image.{view}
+use Rattle.calls.specs.Peers.{isPlainWith, plainBelow}
+use Rattle.calls.proofs.PeerLaws.{plain-none, plain-next}
+use Rattle.calls.proofs.time.plain_with.Statement.{statement}
+use Rattle.calls.proofs.time.plain_with.Tie as tie
+use Rattle.calls.proofs.time.plain_with.Reads as reads
+use Rattle.calls.proofs.time.plain_with.Lts as lts
+use Rattle.calls.proofs.time.counts_as.Reads as counts-as-reads
+use Rattle.table.proofs.cells.get_task.Reads as get-task-reads
+
+abbrev Inv-loop : tie.InvT-loop
+Inv-loop s w n₀ j₀ n j = (j ≤ 32) × (n ≤ j) × (n ≡ plainBelow j w (view s))
+
+abbrev μ-loop : tie.MeasureT-loop
+μ-loop s w n₀ j₀ n j = 32 - j
+
+loop-holds : tie.Need-loop-holds Inv-loop μ-loop
+loop-holds c = (omega arith, omega arith, plain-none _ _)
+
+get-task-requires : tie.Need-get-task-requires Inv-loop μ-loop
+get-task-requires c κs = search needs
+
+counts-as-requires : tie.Need-counts-as-requires Inv-loop μ-loop
+counts-as-requires c κs = search needs
+
+add-n : tie.Need-add-n Inv-loop μ-loop
+add-n c = omega (arith, c .counts-as .ensures, once-most (isPlainWith (c .before .before .before .before .before .args .w) (c .before .get-task .result)))
+
+add-j : tie.Need-add-j Inv-loop μ-loop
+add-j c = omega arith
+
+loop-less : tie.Need-loop-less Inv-loop μ-loop
+loop-less c = omega arith
+
+loop-again : tie.Need-loop-again Inv-loop μ-loop
+loop-again c =
+    let g = c .before in
+    let l = g .before .before in
+    let a = l .before .before .args in
+    let more : c .counts-as .result ≡ once (isPlainWith (a .w) (taskOf (view (a .s .now)) (l .loop .j))) = c .counts-as .ensures ∙ ap (λ (k : Task). once (isPlainWith (a .w) k)) (g .get-task .ensures) in
+    omega (arith, more, once-most (isPlainWith (a .w) (taskOf (view (a .s .now)) (l .loop .j))), plain-next (a .w) (view (a .s .now)) (l .loop .j))
+
+returns : tie.Need-returns Inv-loop μ-loop
+returns c = rw (le-antisymm (c .before .loop .inv .0) (c .loop-test .left)) at (c .before .loop .inv .2)
+
+pub plain-with-spec : {M : Type 1} → statement M
+plain-with-spec =
+    tie.close
+    (tie.spec
+    Inv-loop
+    μ-loop
+    loop-holds
+    get-task-requires
+    counts-as-requires
+    add-n
+    add-j
+    loop-less
+    loop-again
+    returns)
