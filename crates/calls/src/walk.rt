@@ -35,16 +35,6 @@ fn pass_right(s: &[u8], given: &[u8], i: usize, left: usize) -> Stand
     Stand { task: at, left: n }
 }
 
-// Task i gets the working priority p.
-fn put_work(s: &mut [u8], i: usize, p: u8)
-    requires { ⌜ (i < 32) × Image (now s) ⌝ }
-    ensures { λ _. ⌜ view (now (s .exit)) ≡ putWork (view (now (s .entry))) i p ⌝ }
-{
-    let mut k = cells::get_task(s, i);
-    k.work = p;
-    moves::put_task(s, i, k);
-}
-
 // From task i along the holders, `left` tasks at most: each gets its working priority worked out afresh. These do not change on the way,
 // so what each task is given along the chains has been found out before.
 fn walk_on(s: &mut [u8], given: &[u8], i: usize, left: usize)
@@ -62,7 +52,7 @@ fn walk_on(s: &mut [u8], given: &[u8], i: usize, left: usize)
     }
     let further = chain::next_of(s, at);
     let p = chain::fresh_of(s, given, at);
-    put_work(s, at, p);
+    moves::rework_task(s, at, p);
     walk_on(s, given, further, n - 1);
 }
 

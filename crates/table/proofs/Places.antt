@@ -1,21 +1,22 @@
 -- How tasks change their places, in the image and in the table. Assumes nothing.
 use mathlib.Core.Path.{_≡_, refl, sym, ap, ap₂, subst, _∙_}
-use mathlib.Core.Bool.{Bool, true, false}
+use mathlib.Core.Bool.{Bool, true, false, _&&_}
 use mathlib.Core.List.{List, [], _∷_, map}
 use Prim.Native.Nat.{ℕ, zero, suc, _+_, _≤_, _<_}
 use native.Mathlib.Nat.{add-zero}
 use native.Mathlib.Omega.{arith}
 use lib.ListN.{length, getD, take}
 use lib.Seq.{ext-getD, getD-take, length-take-le, getD-set-same, set-set, map-set-same}
+use lib.Dec.{eqb}
 use borrow.Author.Tests.{lt-ltb, le-ltb, eq-eqb, ne-eqb}
 use borrow.Rule.Slice.PartMut.{putMid}
 use Rattle.queue.specs.Slots.{placeBehind, opened, behind, without}
 use Rattle.queue.specs.Lengths.{length-behind, length-without}
 use Rattle.rules.specs.declared.Task.{Task}
-use Rattle.rules.specs.Table.{Table, taskOf, queueOf, works, placeOf, firstIn, noTask, withTask, withQueue, withRunning, withLeft}
+use Rattle.rules.specs.Table.{Table, taskOf, queueOf, works, placeOf, firstIn, noTask, withTask, withQueue, withRunning, withWork, withLeft}
 use Rattle.rules.specs.Decides.{equals, itself, both}
-use Rattle.rules.specs.Move.{leave, join, stays, put, rotate, chosen}
-use Rattle.laws.specs.Put.{put-in, put-moves}
+use Rattle.rules.specs.Move.{leave, join, stays, put, putWork, rotate, chosen}
+use Rattle.laws.specs.Put.{put-in, put-moves, place-same}
 use Rattle.table.specs.Parts.{part, tabulate}
 use Rattle.table.specs.Image.{Image, queueAt, taskIn, taskAt, view}
 use Rattle.table.specs.PartLaws.{part-at, tabulate-at, tabulate-length}
@@ -105,6 +106,19 @@ module _ (i : ℕ) (k : Task) (t : Table) where
       go : (b : Bool) → stays (taskOf t i) k ≡ b → put i k t ≡ join (placeOf k) i (withTask i k t)
       go true e = put-same l e ∙ sym (join-not _ i (withTask i k t) (omega (arith, kept-place e)))
       go false e = put-moves i k t l e ∙ ap (join (placeOf k) i) (leave-not _ i (withTask i k t) h)
+
+never : (b : Bool) → (b && false) ≡ false
+never true = refl
+never false = refl
+
+-- Another working priority: the task leaves its queue and joins it again.
+pub work-moves : (i p : ℕ) (t : Table) → i < 32 → (taskOf t i .work ≡ p → ⊥)
+    → putWork t i p ≡ join (placeOf (taskOf t i)) i (leave (placeOf (taskOf t i)) i (withTask i (withWork p (taskOf t i)) t))
+unfolding stays
+work-moves i p t l d =
+    let k = taskOf t i in
+    put-moves i (withWork p k) t l (rw (ne-eqb (k .work) p d) (never (eqb (placeOf k) (placeOf (withWork p k)))))
+    ∙ ap (λ (q : ℕ). join q i (leave (placeOf k) i (withTask i (withWork p k) t))) (place-same k (withWork p k) refl refl refl refl)
 
 -- A rotation leaves the able queue and joins it again.
 pub rotate-is : (i : ℕ) (t : Table) → i < 32 → 0 < length (t .queues) → rotate i t ≡ join 0 i (leave 0 i (withTask i (withLeft (taskOf t i .quantum) (taskOf t i)) t))

@@ -13,11 +13,11 @@ use borrow.Rule.Slice.PartMut.{putMid}
 use Rattle.rules.specs.declared.Task.{Task}
 use Rattle.rules.specs.declared.Semaphore.{Semaphore}
 use Rattle.rules.specs.declared.Mutex.{Mutex}
-use Rattle.rules.specs.Table.{Table, withTask, withSemaphore, withMutex, withQueue, withTick, withDepth, withRunning}
+use Rattle.rules.specs.Table.{Table, taskOf, withWork, withTask, withSemaphore, withMutex, withQueue, withTick, withDepth, withRunning}
 use Rattle.table.specs.Parts.{part, wordAt, bytesOf}
-use Rattle.table.specs.Image.{Image, Fitting, stateAt, dueAt, cellAt, semaphoreAt, mutexAt, queueAt, tickAt, depthAt, runningAt, taskCell, dueCell, taskAt, semaphoreIn, semaphoreCell, mutexIn, mutexCell, view}
+use Rattle.table.specs.Image.{Image, Fitting, stateAt, dueAt, cellAt, semaphoreAt, mutexAt, queueAt, tickAt, depthAt, runningAt, taskIn, taskCell, dueCell, taskAt, semaphoreIn, semaphoreCell, mutexIn, mutexCell, view}
 use Rattle.table.specs.PartLaws.{tabulate-same}
-use Rattle.table.specs.Shape.{view-tick, view-depth, view-running}
+use Rattle.table.specs.Shape.{view-task, view-tick, view-depth, view-running}
 use Rattle.table.specs.Words.{word-back, task-back, semaphore-back, mutex-back}
 use Rattle.table.proofs.Changes.{Changed, Apart, set-changed, put-changed, put-there, byte-kept, word-kept, part-kept, rows-apart, tabulate-set, array-same, array-put}
 
@@ -196,6 +196,23 @@ module _ (l : List ℕ) (i : ℕ) (k : Task) (hl : Image l) (h : i < 32) (f : Fi
 
   pub store-task : view four ≡ withTask i k (view l)
   store-task = frame 0 512 hl whole (omega arith) (omega arith) ∙ rw tasks-put
+
+-- A working priority alone.
+module _ (l : List ℕ) (i v : ℕ) (hl : Image l) (h : i < 32) where
+  worked : Changed i 1 l (set l i v)
+  worked = set-changed l i v
+
+  apart-kept : (j : ℕ) → j < 32 → (getD (set l i v) (stateAt j) 0 ≡ getD l (stateAt j) 0) × (wordAt 4 (dueAt j) (set l i v) ≡ wordAt 4 (dueAt j) l) × (part (cellAt j) 10 (set l i v) ≡ part (cellAt j) 10 l)
+  apart-kept j p = (worked .rest (stateAt j) (inr (omega arith)), word-kept worked (dueAt j) 4 (inr (omega arith)), part-kept worked (cellAt j) 10 (inr (omega arith)) (omega arith))
+
+  tasks-work : view (set l i v) .tasks ≡ set (view l .tasks) i (withWork v (taskOf (view l) i))
+  unfolding view taskAt taskIn
+  tasks-work =
+      tabulate-set 32 _ _ i h (λ j p o. rw (getD-set-other l i j v 0 o, apart-kept j p .0, apart-kept j p .1, apart-kept j p .2))
+      ∙ ap (set (view l .tasks) i) (rw (getD-set-same l i v 0 (omega arith), apart-kept i h .0, apart-kept i h .1, apart-kept i h .2) (ap (withWork v) (sym (view-task l i h))))
+
+  pub store-work : view (set l i v) ≡ withTask i (withWork v (taskOf (view l) i)) (view l)
+  store-work = frame 0 512 hl worked (omega arith) (omega arith) ∙ rw tasks-work
 
 -- ---- the other setters
 

@@ -3,7 +3,7 @@ ghost use mathlib.Core.Path.{_≡_};
 ghost use mathlib.Core.List.{[], _∷_};
 ghost use Prim.Native.Nat.{_+_, _*_, _≤_, _<_};
 ghost use lib.ListN.{length};
-ghost use Rattle.rules.specs.Table.{noTask, taskOf, withTask, semaphoreOf, withSemaphore, mutexOf, withMutex, withTick, withDepth, withRunning};
+ghost use Rattle.rules.specs.Table.{noTask, taskOf, withWork, withTask, semaphoreOf, withSemaphore, mutexOf, withMutex, withTick, withDepth, withRunning};
 ghost use Rattle.table.specs.Parts.{wordAt, bytesOf};
 ghost use Rattle.table.specs.Image.{Image, view, taskIn, taskCell, semaphoreCell, mutexCell, Fitting};
 
@@ -85,6 +85,14 @@ pub fn get_work(s: &[u8], i: usize) -> u8
     ensures { λ r. ⌜ r ≡ taskOf (view (now (s .entry))) i .work ⌝ }
 {
     s[i]
+}
+
+// The same, stored: the task stays in its place. It changes it through `moves::rework_task`.
+pub fn set_work(s: &mut [u8], i: usize, p: u8)
+    requires { ⌜ (i < 32) × Image (now s) ⌝ }
+    ensures { λ _. ⌜ view (now (s .exit)) ≡ withTask i (withWork p (taskOf (view (now (s .entry))) i)) (view (now (s .entry))) ⌝ }
+{
+    s[i] = p;
 }
 
 // The record of a free number.

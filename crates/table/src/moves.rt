@@ -1,11 +1,11 @@
-// How tasks change their places: `put` is the one door, in general and in three cases that need less; `rotate` is the one other move; and
+// How tasks change their places: `put` is the one door, in general and in four cases that need less; `rotate` is the one other move; and
 // who runs.
 ghost use mathlib.Core.Path.{_≡_};
 ghost use Prim.Native.Nat.{_≤_, _<_};
 ghost use lib.ListN.{getD};
 ghost use Rattle.queue.specs.Slots.{placeBehind};
 ghost use Rattle.rules.specs.Table.{taskOf, queueOf, works, isAble, placeOf, firstIn};
-ghost use Rattle.rules.specs.Move.{leave, join, stays, put, rotate, chosen};
+ghost use Rattle.rules.specs.Move.{leave, join, stays, put, putWork, rotate, chosen};
 ghost use Rattle.table.specs.Image.{Image, view};
 use crate::cells;
 
@@ -132,6 +132,20 @@ pub fn bring_in(s: &mut [u8], i: usize, k: rules::Task)
     }
     cells::set_task(s, i, k);
     join_queue(s, place_of(k), i);
+}
+
+// The same where the working priority alone changes, to p: no other field is read that does not tell the place.
+pub fn rework_task(s: &mut [u8], i: usize, p: u8)
+    requires { ⌜ (i < 32) × Image (now s) ⌝ }
+    ensures { λ _. ⌜ view (now (s .exit)) ≡ putWork (view (now (s .entry))) i p ⌝ }
+{
+    if cells::get_work(s, i) == p {
+        return;
+    }
+    let q = place_of(cells::get_task(s, i));
+    cells::set_work(s, i, p);
+    leave_queue(s, q, i);
+    join_queue(s, q, i);
 }
 
 fn rotate_in(s: &mut [u8], i: usize)

@@ -12,9 +12,9 @@ use Rattle.calls.proofs.walk.walk_on.Reads as walk-on
 use Rattle.calls.proofs.walk.walk_on.Kinds as walk-on-kinds
 use Rattle.calls.proofs.walk.+walk_on.Lts-walk_on as walk-on-lts
 use Rattle.calls.proofs.walk.pass_right.Reads as pass-right-reads
-use Rattle.calls.proofs.walk.put_work.Reads as put-work-reads
 use Rattle.chain.proofs.fresh_of.Reads as fresh-of-reads
 use Rattle.chain.proofs.next_of.Reads as next-of-reads
+use Rattle.table.proofs.moves.rework_task.Reads as rework-task-reads
 use Rattle.calls.proofs.walk.+walk_on.{statement}
 use Rattle.calls.proofs.walk.+walk_on.Tie.{close}
 
@@ -34,8 +34,8 @@ walk-on-pass-right-requires : (t : ℕ) → walk-on-lts.Need-pass-right-requires
   next-of-reads.Learnt,
   fresh-of-reads.Asked,
   fresh-of-reads.Learnt,
-  put-work-reads.Asked,
-  put-work-reads.Learnt,
+  rework-task-reads.Asked,
+  rework-task-reads.Learnt,
   walk-on-below t,
   walk-on.Post,
 ) (walk-on-at t) walk-on.Post
@@ -48,8 +48,8 @@ walk-on-same-length : (t : ℕ) → walk-on-lts.Need-same-length (
   next-of-reads.Learnt,
   fresh-of-reads.Asked,
   fresh-of-reads.Learnt,
-  put-work-reads.Asked,
-  put-work-reads.Learnt,
+  rework-task-reads.Asked,
+  rework-task-reads.Learnt,
   walk-on-below t,
   walk-on.Post,
 ) (walk-on-at t) walk-on.Post
@@ -62,8 +62,8 @@ walk-on-returns : (t : ℕ) → walk-on-lts.Need-returns (
   next-of-reads.Learnt,
   fresh-of-reads.Asked,
   fresh-of-reads.Learnt,
-  put-work-reads.Asked,
-  put-work-reads.Learnt,
+  rework-task-reads.Asked,
+  rework-task-reads.Learnt,
   walk-on-below t,
   walk-on.Post,
 ) (walk-on-at t) walk-on.Post
@@ -79,8 +79,8 @@ walk-on-same-length-2 : (t : ℕ) → walk-on-lts.Need-same-length-2 (
   next-of-reads.Learnt,
   fresh-of-reads.Asked,
   fresh-of-reads.Learnt,
-  put-work-reads.Asked,
-  put-work-reads.Learnt,
+  rework-task-reads.Asked,
+  rework-task-reads.Learnt,
   walk-on-below t,
   walk-on.Post,
 ) (walk-on-at t) walk-on.Post
@@ -93,8 +93,8 @@ walk-on-returns-2 : (t : ℕ) → walk-on-lts.Need-returns-2 (
   next-of-reads.Learnt,
   fresh-of-reads.Asked,
   fresh-of-reads.Learnt,
-  put-work-reads.Asked,
-  put-work-reads.Learnt,
+  rework-task-reads.Asked,
+  rework-task-reads.Learnt,
   walk-on-below t,
   walk-on.Post,
 ) (walk-on-at t) walk-on.Post
@@ -110,8 +110,8 @@ walk-on-next-of-requires : (t : ℕ) → walk-on-lts.Need-next-of-requires (
   next-of-reads.Learnt,
   fresh-of-reads.Asked,
   fresh-of-reads.Learnt,
-  put-work-reads.Asked,
-  put-work-reads.Learnt,
+  rework-task-reads.Asked,
+  rework-task-reads.Learnt,
   walk-on-below t,
   walk-on.Post,
 ) (walk-on-at t) walk-on.Post
@@ -124,26 +124,26 @@ walk-on-fresh-of-requires : (t : ℕ) → walk-on-lts.Need-fresh-of-requires (
   next-of-reads.Learnt,
   fresh-of-reads.Asked,
   fresh-of-reads.Learnt,
-  put-work-reads.Asked,
-  put-work-reads.Learnt,
+  rework-task-reads.Asked,
+  rework-task-reads.Learnt,
   walk-on-below t,
   walk-on.Post,
 ) (walk-on-at t) walk-on.Post
 walk-on-fresh-of-requires t c κs = search needs
 
-walk-on-put-work-requires : (t : ℕ) → walk-on-lts.Need-put-work-requires (
+walk-on-rework-task-requires : (t : ℕ) → walk-on-lts.Need-rework-task-requires (
   pass-right-reads.Asked,
   pass-right-reads.Learnt,
   next-of-reads.Asked,
   next-of-reads.Learnt,
   fresh-of-reads.Asked,
   fresh-of-reads.Learnt,
-  put-work-reads.Asked,
-  put-work-reads.Learnt,
+  rework-task-reads.Asked,
+  rework-task-reads.Learnt,
   walk-on-below t,
   walk-on.Post,
 ) (walk-on-at t) walk-on.Post
-walk-on-put-work-requires t c κs = search needs
+walk-on-rework-task-requires t c κs = search needs
 
 walk-on-sub-walk-on : (t : ℕ) → walk-on-lts.Need-sub-walk-on (
   pass-right-reads.Asked,
@@ -152,8 +152,8 @@ walk-on-sub-walk-on : (t : ℕ) → walk-on-lts.Need-sub-walk-on (
   next-of-reads.Learnt,
   fresh-of-reads.Asked,
   fresh-of-reads.Learnt,
-  put-work-reads.Asked,
-  put-work-reads.Learnt,
+  rework-task-reads.Asked,
+  rework-task-reads.Learnt,
   walk-on-below t,
   walk-on.Post,
 ) (walk-on-at t) walk-on.Post
@@ -166,15 +166,15 @@ walk-on-walk-on-requires : (t : ℕ) → walk-on-lts.Need-walk-on-requires (
   next-of-reads.Learnt,
   fresh-of-reads.Asked,
   fresh-of-reads.Learnt,
-  put-work-reads.Asked,
-  put-work-reads.Learnt,
+  rework-task-reads.Asked,
+  rework-task-reads.Learnt,
   walk-on-below t,
   walk-on.Post,
 ) (walk-on-at t) walk-on.Post
 walk-on-walk-on-requires t c κs =
     let a = c .before .before .before .before .before .before .before .before .before .before .before .before .before .before .before in
     let w = c .before .before .before .before .before .before .before .before .before .before .before .pass-right in
-    (omega (arith, w .ensures .0, a .pre .0), (search needs, rw (c .before .before .before .put-work .ensures) (given-work (w .result .task) _ (omega arith) (a .pre .1 .1))))
+    (omega (arith, w .ensures .0, a .pre .0), (search needs, rw (c .before .before .before .rework-task .ensures) (given-work (w .result .task) _ (omega arith) (a .pre .1 .1))))
 
 walk-on-same-length-3 : (t : ℕ) → walk-on-lts.Need-same-length-3 (
   pass-right-reads.Asked,
@@ -183,8 +183,8 @@ walk-on-same-length-3 : (t : ℕ) → walk-on-lts.Need-same-length-3 (
   next-of-reads.Learnt,
   fresh-of-reads.Asked,
   fresh-of-reads.Learnt,
-  put-work-reads.Asked,
-  put-work-reads.Learnt,
+  rework-task-reads.Asked,
+  rework-task-reads.Learnt,
   walk-on-below t,
   walk-on.Post,
 ) (walk-on-at t) walk-on.Post
@@ -197,8 +197,8 @@ walk-on-returns-3 : (t : ℕ) → walk-on-lts.Need-returns-3 (
   next-of-reads.Learnt,
   fresh-of-reads.Asked,
   fresh-of-reads.Learnt,
-  put-work-reads.Asked,
-  put-work-reads.Learnt,
+  rework-task-reads.Asked,
+  rework-task-reads.Learnt,
   walk-on-below t,
   walk-on.Post,
 ) (walk-on-at t) walk-on.Post
@@ -206,7 +206,7 @@ walk-on-returns-3 t c =
     let a = c .before .before .before .before .before .before .before .before .before .before .before .before .before .before .before .before .before .before .args in
     let w = c .before .before .before .before .before .before .before .before .before .before .before .before .before .before .pass-right in
     c .before .before .walk-on .ensures
-    ∙ rw (c .before .before .before .before .before .before .put-work .ensures, c .before .before .before .before .before .before .before .before .before .before .next-of .ensures, c .before .before .before .before .before .before .before .before .fresh-of .ensures)
+    ∙ rw (c .before .before .before .before .before .before .rework-task .ensures, c .before .before .before .before .before .before .before .before .before .before .next-of .ensures, c .before .before .before .before .before .before .before .before .fresh-of .ensures)
     (sym (w .ensures .1 ∙ walkOn-turn 32 next freshIn putWork (w .result .left) (w .result .task) (view (a .s .now)) (c .before .before .before .before .before .before .before .before .before .before .before .before .before .if1 .left) (c .before .before .before .before .before .before .before .before .before .before .before .before .if2 .left)))
 
 pub +walk-on-spec : {M : Type 1} → statement M
@@ -217,8 +217,8 @@ pub +walk-on-spec : {M : Type 1} → statement M
   next-of-reads.Learnt,
   fresh-of-reads.Asked,
   fresh-of-reads.Learnt,
-  put-work-reads.Asked,
-  put-work-reads.Learnt,
+  rework-task-reads.Asked,
+  rework-task-reads.Learnt,
   walk-on-below t,
   walk-on.Post,
 )
@@ -231,7 +231,7 @@ pub +walk-on-spec : {M : Type 1} → statement M
     (walk-on-returns-2 t)
     (walk-on-next-of-requires t)
     (walk-on-fresh-of-requires t)
-    (walk-on-put-work-requires t)
+    (walk-on-rework-task-requires t)
     (walk-on-sub-walk-on t)
     (walk-on-walk-on-requires t)
     (walk-on-same-length-3 t)
