@@ -2,7 +2,6 @@
 use mathlib.Core.Path.{_≡_, refl, sym, ap, _∙_}
 use mathlib.Core.Logic.{⊎-elim, _≢_}
 use mathlib.Core.Bool.{Bool, true, false, cond, false≢true}
-use mathlib.Core.List.{List}
 use Prim.Native.Nat.{ℕ, zero, suc, _+_, _-_, _≤_, _<_}
 use native.Mathlib.Nat.{eq-or-lt-of-le, le-of-suc-le-suc}
 use native.Mathlib.Numerals.{add-one}
@@ -19,9 +18,6 @@ use Rattle.rules.specs.Table.{Table, taskOf, noTask, isAble}
 use Rattle.rules.specs.Move.{hasPeer}
 use Rattle.laws.specs.Order.{Peer}
 use Rattle.laws.specs.Found.{peer}
-use Rattle.table.specs.Image.{view}
-use Rattle.table.specs.Shape.{view-queue}
-use Rattle.table.specs.PartLaws.{part-at}
 use Rattle.calls.specs.Peers.{isPlainWith, plainBelow, isAlone, second, isPeer, isSecondPeer}
 
 -- ---- how many are plain and of one working priority
@@ -108,9 +104,6 @@ alone-none i t e = go (hasPeer i t) refl
     go true q = absurd (none (peer i t .holds q))
 
 -- ---- the second of the able queue
-
-pub second-read : (l : List ℕ) → second (view l) ≡ getD l 641 0
-second-read l = ap (λ (z : List ℕ). getD z 1 0) (view-queue l 0 (omega arith)) ∙ part-at 640 32 l 1 (omega arith)
 
 module _ (i : ℕ) (t : Table) where
   pub second-none : second t ≡ 0 → false ≡ isSecondPeer i t

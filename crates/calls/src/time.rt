@@ -98,12 +98,12 @@ fn is_alone(s: &[u8], i: usize) -> bool
     plain_with(s, k.work) <= 1
 }
 
-// Whether the second of the able queue, byte 641, is a peer of task i.
+// Whether the second of the able queue is a peer of task i.
 fn is_second_peer(s: &[u8], i: usize) -> bool
     requires { ⌜ Image (now s) ⌝ }
     ensures { λ r. ⌜ r ≡ isSecondPeer i (view (now (s .entry))) ⌝ }
 {
-    let v = s[641];
+    let v = moves::second_in(s, 0);
     if v == 0 {
         return false;
     }

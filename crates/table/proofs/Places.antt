@@ -2,7 +2,7 @@
 use mathlib.Core.Path.{_≡_, refl, sym, ap, ap₂, subst, _∙_}
 use mathlib.Core.Bool.{Bool, true, false, _&&_}
 use mathlib.Core.List.{List, [], _∷_, map}
-use Prim.Native.Nat.{ℕ, zero, suc, _+_, _≤_, _<_}
+use Prim.Native.Nat.{ℕ, zero, suc, _+_, _*_, _≤_, _<_}
 use native.Mathlib.Nat.{add-zero}
 use native.Mathlib.Omega.{arith}
 use lib.ListN.{length, getD, take}
@@ -47,6 +47,11 @@ view-work l i h hl = ap (λ (z : List ℕ). getD z i 0) (view-works l hl) ∙ ge
 
 pub view-first : (l : List ℕ) (q : ℕ) → q < 33 → firstIn q (view l) ≡ getD l (queueAt q) 0
 view-first l q h = ap (λ (z : List ℕ). getD z 0 0) (view-queue l q h) ∙ part-at (queueAt q) 32 l 0 (omega arith) ∙ ap (λ (z : ℕ). getD l z 0) (add-zero (queueAt q))
+
+pub view-second : (l : List ℕ) (q : ℕ) → q < 33 → getD (queueOf (view l) q) 1 0 ≡ getD l (641 + q * 32) 0
+view-second l q h =
+    let e : queueAt q + 1 ≡ 641 + q * 32 = omega arith in
+    ap (λ (z : List ℕ). getD z 1 0) (view-queue l q h) ∙ part-at (queueAt q) 32 l 1 (omega arith) ∙ ap (λ (z : ℕ). getD l z 0) e
 
 -- ---- leaving and joining
 

@@ -178,6 +178,14 @@ pub fn first_in(s: &[u8], q: usize) -> u8
     s[640 + q * 32]
 }
 
+// The task behind it, in the same way.
+pub fn second_in(s: &[u8], q: usize) -> u8
+    requires { ⌜ (q < 33) × Image (now s) ⌝ }
+    ensures { λ r. ⌜ r ≡ getD (queueOf (view (now (s .entry))) q) 1 0 ⌝ }
+{
+    s[641 + q * 32]
+}
+
 // At depth 0 the first able task runs.
 pub fn choose(s: &mut [u8])
     requires { ⌜ Image (now s) ⌝ }
