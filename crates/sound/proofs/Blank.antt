@@ -10,7 +10,7 @@ use Rattle.rules.specs.declared.Task.{Task}
 use Rattle.rules.specs.Table.{noTask}
 use Rattle.rules.specs.Sound.{isNoTask}
 use Rattle.rules.specs.Tested.{no-task}
-use Rattle.rules.specs.Decides.{Decides, equals, first, last}
+use Rattle.rules.specs.Decides.{equals, first, last}
 use Rattle.table.specs.Parts.{wordAt}
 use Rattle.table.specs.Image.{taskIn}
 use Rattle.sound.specs.Tests.{same-test}
