@@ -2,8 +2,7 @@
 use mathlib.Core.Path.{_≡_, refl, sym, ap, _∙_}
 use mathlib.Core.Logic.{⊎-elim, _≢_}
 use mathlib.Core.Bool.{Bool, true, false, cond, false≢true}
-use Prim.Native.Nat.{ℕ, zero, suc, _+_, _-_, _≤_, _<_}
-use native.Mathlib.Nat.{eq-or-lt-of-le, le-of-suc-le-suc}
+use Prim.Native.Nat.{ℕ, _+_, _-_, _≤_, _<_}
 use native.Mathlib.Numerals.{add-one}
 use native.Mathlib.Omega.{arith}
 use lib.Dec.{eqb, leb}
@@ -18,6 +17,8 @@ use Rattle.rules.specs.Table.{Table, taskOf, noTask, isAble}
 use Rattle.rules.specs.Move.{hasPeer}
 use Rattle.laws.specs.Order.{Peer}
 use Rattle.laws.specs.Found.{peer}
+use Rattle.laws.specs.Stands.{able}
+use Rattle.laws.specs.Tally.{tally, tally-two}
 use Rattle.calls.specs.Peers.{isPlainWith, plainBelow, isAlone, second, isPeer, isSecondPeer}
 
 -- ---- how many are plain and of one working priority
@@ -26,32 +27,13 @@ plain-with : (w : ℕ) (k : Task) → Decides (isPlainWith w k) ((k .work ≡ w)
 plain-with w k = both equals equals
 
 module _ (w : ℕ) (t : Table) where
-  pub plain-next : (j : ℕ) → plainBelow (j + 1) w t ≡ plainBelow j w t + once (isPlainWith w (taskOf t j))
-  unfolding plainBelow
+  pub plain-next : (j : ℕ) → plainBelow (j + 1) w t ≡ once (isPlainWith w (taskOf t j)) + plainBelow j w t
+  unfolding tally
   plain-next j = rw add-one
 
-  -- One of them counts, and two count twice.
-  plain-one : (i n : ℕ) → i < n → isPlainWith w (taskOf t i) ≡ true → 1 ≤ plainBelow n w t
-  unfolding plainBelow
-  plain-one i zero l e = absurd (omega arith)
-  plain-one i (suc n) l e =
-      ⊎-elim
-      (λ z. omega (arith, ap once (sym (ap (λ (x : ℕ). isPlainWith w (taskOf t x)) z) ∙ e)))
-      (λ m. omega (arith, plain-one i n m e))
-      (eq-or-lt-of-le (le-of-suc-le-suc l))
-
-  plain-two : (i j n : ℕ) → i < j → j < n → isPlainWith w (taskOf t i) ≡ true → isPlainWith w (taskOf t j) ≡ true → 2 ≤ plainBelow n w t
-  unfolding plainBelow
-  plain-two i j zero d l e f = absurd (omega arith)
-  plain-two i j (suc n) d l e f =
-      ⊎-elim
-      (λ z. omega (arith, plain-one i n (omega arith) e, ap once (sym (ap (λ (x : ℕ). isPlainWith w (taskOf t x)) z) ∙ f)))
-      (λ m. omega (arith, plain-two i j n d m e f))
-      (eq-or-lt-of-le (le-of-suc-le-suc l))
-
-pub plain-none : (w : ℕ) (t : Table) → 0 ≡ plainBelow 0 w t
-unfolding plainBelow
-plain-none w t = refl
+  pub plain-none : 0 ≡ plainBelow 0 w t
+  unfolding tally
+  plain-none = refl
 
 -- ---- alone
 
@@ -71,11 +53,6 @@ pub alone-counted : (i : ℕ) (t : Table) → i < taskCount → taskOf t i .stat
 unfolding isAlone
 alone-counted i t h e = rw (lt-ltb i taskCount h, eq-eqb _ _ e)
 
--- An able task is plain.
-able-plain : (k : Task) → isAble k ≡ true → k .state ≡ plain
-unfolding isAble
-able-plain k e = both {A = k .used ≡ 1} equals (both {A = k .state ≡ plain} {B = k .suspend ≡ 0} equals equals) .holds e .1 .0
-
 -- Who is alone has no peer: it would count too.
 pub alone-none : (i : ℕ) (t : Table) → isAlone i t ≡ true → hasPeer i t ≡ false
 alone-none i t e = go (hasPeer i t) refl
@@ -86,17 +63,20 @@ alone-none i t e = go (hasPeer i t) refl
     h : (i < taskCount) × ((taskOf t i .state ≡ plain) × (plainBelow taskCount w t ≤ 1))
     h = alone i t .holds e
 
+    counts : ℕ → Bool
+    counts j = isPlainWith w (taskOf t j)
+
     own : isPlainWith w (taskOf t i) ≡ true
     own = plain-with w (taskOf t i) .passes (refl, h .1 .0)
 
     its : (p : Peer i t) → isPlainWith w (taskOf t (p .number)) ≡ true
-    its p = plain-with w (taskOf t (p .number)) .passes (p .work, able-plain _ (p .able))
+    its p = plain-with w (taskOf t (p .number)) .passes (p .work, able (taskOf t (p .number)) .holds (p .able) .state)
 
     none : Peer i t → ⊥
     none p =
         ⊎-elim
-        (λ l. omega (arith, h .1 .1, plain-two w t i (p .number) taskCount l (p .range) own (its p)))
-        (λ l. omega (arith, h .1 .1, plain-two w t (p .number) i taskCount (omega (arith, l, p .other)) (h .0) (its p) own))
+        (λ l. omega (arith, h .1 .1, tally-two counts i (p .number) taskCount l (p .range) own (its p)))
+        (λ l. omega (arith, h .1 .1, tally-two counts (p .number) i taskCount (omega (arith, l, p .other)) (h .0) (its p) own))
         (lt-or-le i (p .number))
 
     go : (b : Bool) → hasPeer i t ≡ b → b ≡ false

@@ -1,12 +1,12 @@
 -- Quick answers to the question whether another able task has the working priority of task i.
 use mathlib.Core.Bool.{Bool, false, cond, not, _&&_}
-use Prim.Native.Nat.{ℕ, zero, suc, _+_, _-_}
+use Prim.Native.Nat.{ℕ, _-_}
 use lib.Dec.{eqb, ltb, leb}
 use lib.ListN.{getD}
 use Rattle.rules.specs.Sizes.{taskCount, plain}
-use Rattle.rules.specs.Sound.{once}
 use Rattle.rules.specs.declared.Task.{Task}
 use Rattle.rules.specs.Table.{Table, taskOf, queueOf, ableQueue, isAble}
+use Rattle.laws.specs.Tally.{tally}
 
 -- ---- none, where no other plain task has it
 
@@ -14,9 +14,8 @@ abbrev pub isPlainWith : ℕ → Task → Bool
 isPlainWith w k = eqb (k .work) w && eqb (k .state) plain
 
 -- How many of the first n tasks are plain and of the working priority w.
-unfoldable pub plainBelow : ℕ → ℕ → Table → ℕ
-plainBelow zero w t = 0
-plainBelow (suc n) w t = plainBelow n w t + once (isPlainWith w (taskOf t n))
+abbrev pub plainBelow : ℕ → ℕ → Table → ℕ
+plainBelow n w t = tally (λ j. isPlainWith w (taskOf t j)) n
 
 -- Whether task i, plain, is the only one of its working priority that is.
 unfoldable pub isAlone : ℕ → Table → Bool

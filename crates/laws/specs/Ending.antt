@@ -13,12 +13,12 @@ use Rattle.rules.specs.Sizes.{taskCount, ticksRound, plain, delayed, given, tim
 use Rattle.rules.specs.Table.{Table, taskOf, queueCount, ableQueue, firstIn, placeOf, withTick}
 use Rattle.rules.specs.Move.{ready, ended, endedAll}
 use Rattle.rules.specs.Decides.{Decides, equals, both}
-use Rattle.rules.specs.Sound.{Empty, once, Sound}
+use Rattle.rules.specs.Sound.{Empty, Sound}
 use Rattle.rules.specs.Object.{emptied}
 use Rattle.rules.specs.Tick.{isDue, dueEnded, dueBelow, ticked}
 use Rattle.rules.specs.declared.Task.{Task}
 use Rattle.laws.specs.Settled.{Settled, NotDue, sound-settled, sound-notDue, sound-runs, sized}
-use Rattle.laws.specs.Queues.{once-most}
+use Rattle.laws.specs.Tally.{tally, tally-most, tally-some, tally-less}
 use Rattle.laws.specs.Fields.{rest, bare-place, put-rest, walk-rest}
 use Rattle.laws.specs.Put.{either}
 use Rattle.laws.specs.Stands.{placed-used, waits-there, first-range, first-there, none-empty}
@@ -65,40 +65,6 @@ first-waiter {t} s q l d some =
     let n : i < taskCount = omega (arith, first-range (s .queued) q l) in
     let there : placeOf (taskOf t i) ≡ q = first-there (s .queued) q l some in
     record { task = n; used = placed-used (s .tasks i n) (omega arith); state = waits-there (taskOf t i) (omega arith) (λ e. d (sym there ∙ e)) }
-
--- ---- how many pass
-
--- How many of the first n pass the test.
-tally : (ℕ → Bool) → ℕ → ℕ
-tally p zero = 0
-tally p (suc n) = once (p n) + tally p n
-
-tally-most : (p : ℕ → Bool) (n : ℕ) → tally p n ≤ n
-unfolding tally
-tally-most p zero = omega arith
-tally-most p (suc n) = omega (arith, once-most (p n), tally-most p n)
-
-tally-some : (p : ℕ → Bool) (i n : ℕ) → i < n → p i ≡ true → 1 ≤ tally p n
-unfolding tally
-tally-some p i zero l e = absurd (omega arith)
-tally-some p i (suc n) l e =
-    ⊎-elim (λ z. omega (arith, ap once (sym (ap p z) ∙ e))) (λ m. omega (arith, tally-some p i n m e)) (eq-or-lt-of-le (le-of-suc-le-suc l))
-
-module _ (p r : ℕ → Bool) (i : ℕ) (others : (j : ℕ) → j ≢ i → r j ≡ p j) where
-  tally-same : (n : ℕ) → n ≤ i → tally r n ≡ tally p n
-  unfolding tally
-  tally-same zero l = refl
-  tally-same (suc n) l = omega (arith, ap once (others n (λ e. omega arith)), tally-same n (omega arith))
-
-  -- One fewer, where i passed before and no longer does.
-  tally-less : (n : ℕ) → i < n → p i ≡ true → r i ≡ false → tally r n < tally p n
-  unfolding tally
-  tally-less zero l was is = absurd (omega arith)
-  tally-less (suc n) l was is =
-      ⊎-elim
-      (λ e. omega (arith, tally-same n (omega arith), ap once (sym (ap p e) ∙ was), ap once (sym (ap r e) ∙ is)))
-      (λ m. omega (arith, tally-less n m was is, ap once (others n (λ e. omega arith))))
-      (eq-or-lt-of-le (le-of-suc-le-suc l))
 
 -- ---- each waiter of a queue, from the first
 

@@ -8,6 +8,7 @@ pub mod Fields
 pub mod Stands
 pub mod Becomes
 pub mod Queues
+pub mod Tally
 pub mod Graph
 pub mod Priorities
 pub mod Holders

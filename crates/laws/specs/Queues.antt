@@ -27,6 +27,7 @@ use Rattle.rules.specs.Object.{blocked, taken}
 use Rattle.rules.specs.Mutex.{released}
 use Rattle.rules.specs.Tick.{turned}
 use Rattle.rules.specs.Sound.{Each, once, Shaped}
+use Rattle.rules.specs.Tested.{once-most}
 use Rattle.rules.specs.declared.Task.{Task}
 use Rattle.rules.specs.declared.Semaphore.{Semaphore}
 use Rattle.rules.specs.declared.Mutex.{Mutex}
@@ -42,10 +43,6 @@ pub record Right (keys : List ℕ) (stand : ℕ → Bool) (l : List ℕ) : Type 
   counted : Each taskCount (λ j. count (written j) l ≡ once (stand j))
   inside : All (λ v. v ≤ taskCount) l
   ordered : Ordered keys l
-
-pub once-most : (b : Bool) → once b ≤ 1
-once-most true = omega arith
-once-most false = omega arith
 
 module _ {old l : List ℕ} {before : ℕ → Bool} (keys : List ℕ) (stand : ℕ → Bool) (i : ℕ) (h : i < taskCount) (agree : Agree old keys (written i))
     (others : (j : ℕ) → j ≢ i → stand j ≡ before j) (r : Right old before l) where

@@ -1,8 +1,8 @@
 -- The entries of the table: what is written, and what is read. Assumes nothing.
-use mathlib.Core.Path.{_≡_, ap, _∙_}
+use mathlib.Core.Path.{_≡_, sym, ap, _∙_}
 use mathlib.Core.List.{List, [], _∷_, _++_, append-nil}
 use Prim.Native.Nat.{ℕ, suc, _+_, _≤_, _<_}
-use native.Mathlib.Nat.{add-zero}
+use native.Mathlib.Nat.{add-zero, add-assoc}
 use native.Mathlib.Omega.{arith}
 use lib.ListN.{length, getD, set, drop-of-length-le}
 use lib.Seq.{sets, sets-eq}
@@ -10,6 +10,7 @@ use borrow.Rule.Slice.PartMut.{putMid}
 use Rattle.table.specs.Parts.{part, wordAt}
 use Rattle.table.specs.Image.{semaphoreIn, mutexIn}
 use Rattle.table.specs.PartLaws.{part-at}
+use Rattle.table.specs.Words.{word-agree}
 
 -- ---- what is written
 
@@ -32,9 +33,9 @@ module _ (l : List ℕ) (a : ℕ) where
   at-first : (n : ℕ) → 0 < n → getD (part a n l) 0 0 ≡ getD l a 0
   at-first n h = part-at a n l 0 h ∙ ap (λ (j : ℕ). getD l j 0) (add-zero a)
 
-  pub semaphore-read : semaphoreIn (part a 5 l) ≡ record { used = getD l a 0; count = wordAt 4 0 (getD l (a + 1) 0 ∷ getD l (a + 2) 0 ∷ getD l (a + 3) 0 ∷ getD l (a + 4) 0 ∷ []) }
-  unfolding semaphoreIn wordAt
-  semaphore-read = rw (at-first 5 (omega arith), part-at a 5 l 1 (omega arith), part-at a 5 l 2 (omega arith), part-at a 5 l 3 (omega arith), part-at a 5 l 4 (omega arith))
+  pub semaphore-read : semaphoreIn (part a 5 l) ≡ record { used = getD l a 0; count = wordAt 4 (a + 1) l }
+  unfolding semaphoreIn
+  semaphore-read = rw (at-first 5 (omega arith), word-agree 4 1 (a + 1) l (part a 5 l) (λ i h. part-at a 5 l (1 + i) (omega arith) ∙ ap (λ (j : ℕ). getD l j 0) (sym (add-assoc a 1 i))))
 
   pub mutex-read : mutexIn (part a 3 l) ≡ record { used = getD l a 0; holder = getD l (a + 1) 0; nesting = getD l (a + 2) 0 }
   unfolding mutexIn

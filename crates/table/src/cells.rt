@@ -24,6 +24,7 @@ fn le32(a: u8, b: u8, c: u8, d: u8) -> u32
     a as u32 + 256 * (b as u32) + 65536 * (c as u32) + 16777216 * (d as u32)
 }
 
+// The number of the four bytes from `at` on.
 pub fn four_at(b: &[u8], at: usize) -> u32
     requires { ⌜ at + 4 ≤ length (now b) ⌝ }
     ensures { λ r. ⌜ r ≡ wordAt 4 at (now (b .entry)) ⌝ }
@@ -166,7 +167,7 @@ pub fn get_semaphore(s: &[u8], i: usize) -> rules::Semaphore
     let a = 512 + i * 5;
     rules::Semaphore {
         used: s[a],
-        count: le32(s[a + 1], s[a + 2], s[a + 3], s[a + 4]),
+        count: four_at(s, a + 1),
     }
 }
 
@@ -228,7 +229,7 @@ pub fn get_tick(s: &[u8]) -> u32
     requires { ⌜ Image (now s) ⌝ }
     ensures { λ r. ⌜ r ≡ view (now (s .entry)) .tick ⌝ }
 {
-    le32(s[1696], s[1697], s[1698], s[1699])
+    four_at(s, 1696)
 }
 
 pub fn set_tick(s: &mut [u8], n: u32)

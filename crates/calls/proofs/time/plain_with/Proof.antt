@@ -24,7 +24,7 @@ abbrev μ-loop : tie.MeasureT-loop
 μ-loop s w n₀ j₀ n j = 32 - j
 
 loop-holds : tie.Need-loop-holds Inv-loop μ-loop
-loop-holds c = (omega arith, omega arith, plain-none _ _)
+loop-holds c = let a = c .before .args in (omega arith, omega arith, plain-none (a .w) (view (a .s .now)))
 
 get-task-requires : tie.Need-get-task-requires Inv-loop μ-loop
 get-task-requires c κs = search needs
