@@ -4,10 +4,10 @@ use mathlib.Core.Bool.{true, false}
 use Prim.Native.Nat.{ℕ, _+_, _-_, _≤_, _<_}
 use borrow.Author.Tests.{eq-eqb, ne-eqb, lt-ltb, le-ltb}
 use Rattle.rules.specs.Table.{Table, taskOf, mutexOf, heldBy, withMutex}
-use Rattle.rules.specs.Move.{put, walk, holderOf, ready}
+use Rattle.rules.specs.Move.{put, ready}
 use Rattle.rules.specs.Time.{callerOf}
-use Rattle.rules.specs.Object.{blocked, taken}
-use Rattle.rules.specs.Mutex.{isOwn, mutexWait, handed, released, mutexPost}
+use Rattle.rules.specs.Object.{waits, taken}
+use Rattle.rules.specs.Mutex.{mutexes, isOwn, mutexWait, handed, released, mutexPost}
 
 module _ (i : ℕ) (t : Table) where
   -- ---- a wait: it takes, it nests, or it blocks
@@ -20,7 +20,7 @@ module _ (i : ℕ) (t : Table) where
   unfolding mutexWait
   wait-nests limit d own = rw (own, ne-eqb _ _ d)
 
-  pub wait-blocks : (limit : ℕ) → (mutexOf t i .holder ≡ 0 → ⊥) → isOwn i t ≡ false → walk (holderOf t i) (blocked 3 i limit t) ≡ mutexWait i limit t
+  pub wait-blocks : (limit : ℕ) → (mutexOf t i .holder ≡ 0 → ⊥) → isOwn i t ≡ false → waits mutexes i limit t ≡ mutexWait i limit t
   unfolding mutexWait
   wait-blocks limit d own = rw (own, ne-eqb _ _ d)
 

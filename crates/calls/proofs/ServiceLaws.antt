@@ -1,6 +1,6 @@
 -- What the services share: a call that is refused or done, what goes on was accepted, and the tests on the way. Assumes nothing.
 use mathlib.Core.Path.{_≡_, refl, sym, _∙_}
-use mathlib.Core.Bool.{Bool, true, false, cond, not, _&&_}
+use mathlib.Core.Bool.{Bool, true, false, cond, not, _&&_, true≢false}
 use mathlib.Core.List.{List}
 use Prim.Native.Nat.{ℕ, zero, suc, _≤_}
 use native.Mathlib.Nat.{not-suc-le-zero}
@@ -26,6 +26,18 @@ module _ {n r : ℕ} {b : Bool} (e : r ≡ n) (f : b ≡ not (changes r)) where
 
   pub goes-on : b ≡ false → changes n ≡ true
   goes-on h = rw e at (not-false (changes r) (sym f ∙ h))
+
+-- ---- a service whose answer came with a first change a: refused, begun, and ended with the rest of the change
+
+module _ {n r : ℕ} {a : Table} {l m : List ℕ} {b : Bool} (d : Served n a r l m) (f : b ≡ not (changes r)) where
+  pub refuse-on : {new : Table} → b ≡ true → Served n new r l m
+  refuse-on h = record { says = d .says; done = λ g. absurd (true≢false (sym g ∙ not-true (changes r) (sym f ∙ h))); kept = d .kept }
+
+  pub begun : b ≡ false → view m ≡ a
+  begun h = d .done (not-false (changes r) (sym f ∙ h))
+
+  pub serve-on : {new : Table} {k : List ℕ} → b ≡ false → view k ≡ new → Served n new r l k
+  serve-on h = served (d .says) (not-false (changes r) (sym f ∙ h))
 
 -- A call that goes on was accepted, with all that this tells of its numbers.
 pub accepted : (c : Call) (t : Table) → changes (answerTo c t) ≡ true → Accepted c t

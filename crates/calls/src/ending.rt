@@ -1,6 +1,5 @@
 // Waits and delays that end.
 ghost use mathlib.Core.Path.{_≡_};
-ghost use Prim.Native.Nat.{_<_};
 ghost use Rattle.rules.specs.Move.{away, ready, ended, endedAll};
 ghost use Rattle.table.specs.Image.{Image, view};
 use crate::walk;
@@ -47,7 +46,7 @@ pub fn end_wait(s: &mut [u8], outcome: u8, i: usize)
 
 // The wait of each waiter of queue q ends, from the first.
 pub fn end_all(s: &mut [u8], outcome: u8, q: usize)
-    requires { ⌜ (q < 33) × Image (now s) ⌝ }
+    requires { ⌜ Image (now s) ⌝ }
     ensures { λ _. ⌜ view (now (s .exit)) ≡ endedAll 32 outcome q (view (now (s .entry))) ⌝ }
 {
     let mut left: usize = 32;

@@ -1,12 +1,11 @@
-// Mutex create, delete, wait, post, abort.
+// Mutexes: create, delete, wait, post, abort.
 ghost use mathlib.Core.Path.{_≡_};
-ghost use mathlib.Core.Bool.{true};
+ghost use mathlib.Core.Bool.{true, cond, not};
 ghost use Prim.Native.Nat.{_<_};
-ghost use Rattle.rules.specs.Sizes.{waitsMutex};
 ghost use Rattle.rules.specs.Table.{mutexOf, heldBy, withMutex};
-ghost use Rattle.rules.specs.Move.{chosen, walk, holderOf};
-ghost use Rattle.rules.specs.Object.{blocked, taken};
-ghost use Rattle.rules.specs.Mutex.{isOwn, takeAnswer, mutexCreateAnswer, mutexCreate, mutexDeleteAnswer, mutexDelete, mutexWaitAnswer, mutexWait, mutexPostAnswer, handed, released, mutexPost, mutexAbortAnswer, mutexAbort};
+ghost use Rattle.rules.specs.Move.{chosen};
+ghost use Rattle.rules.specs.Object.{waits, taken, objectCreateAnswer, objectDeleteAnswer, objectDelete, objectAbortAnswer, objectAbort};
+ghost use Rattle.rules.specs.Mutex.{mutexes, isOwn, takeAnswer, mutexCreate, mutexWaitAnswer, mutexWait, mutexPostAnswer, handed, released, mutexPost};
 ghost use Rattle.table.specs.Image.{Image, view};
 ghost use Rattle.calls.specs.Served.{Served};
 use crate::ending;
@@ -15,20 +14,6 @@ use crate::time;
 use crate::walk;
 use table::cells;
 use table::moves;
-
-fn create_answer(s: &[u8], i: u32) -> u8
-    requires { ⌜ Image (now s) ⌝ }
-    ensures { λ r. ⌜ r ≡ mutexCreateAnswer i (view (now (s .entry))) ⌝ }
-{
-    if 16 <= i {
-        return 1;
-    }
-    let x = cells::get_mutex(s, i as usize);
-    if x.used == 1 {
-        return 3;
-    }
-    0
-}
 
 // A mutex in use, held by the task written h, 0 for none.
 fn held_by(h: u8, n: u8) -> rules::Mutex
@@ -43,9 +28,10 @@ fn held_by(h: u8, n: u8) -> rules::Mutex
 
 pub fn create_mutex(s: &mut [u8], i: u32) -> u8
     requires { ⌜ Image (now s) ⌝ }
-    ensures { λ r. ⌜ Served (mutexCreateAnswer i (view (now (s .entry)))) (chosen (mutexCreate i (view (now (s .entry))))) r (now (s .entry)) (now (s .exit)) ⌝ }
+    ensures { λ r. ⌜ Served (objectCreateAnswer mutexes i (view (now (s .entry)))) (chosen (mutexCreate i (view (now (s .entry))))) r (now (s .entry)) (now (s .exit)) ⌝ }
 {
-    let n = create_answer(s, i);
+    let x = cells::mutex_at(s, i as usize);
+    let n = object::create_answer(x.used, 16, i);
     if object::refuses(n) {
         return n;
     }
@@ -54,30 +40,16 @@ pub fn create_mutex(s: &mut [u8], i: u32) -> u8
     n
 }
 
-fn delete_answer(s: &[u8], i: u32, force: u32) -> u8
-    requires { ⌜ Image (now s) ⌝ }
-    ensures { λ r. ⌜ r ≡ mutexDeleteAnswer i force (view (now (s .entry))) ⌝ }
-{
-    if 16 <= i {
-        return 1;
-    }
-    let x = cells::get_mutex(s, i as usize);
-    if !(x.used == 1) {
-        return 2;
-    }
-    object::delete_answer(s, force, 17 + i as usize)
-}
-
 pub fn delete_mutex(s: &mut [u8], i: u32, force: u32) -> u8
     requires { ⌜ Image (now s) ⌝ }
-    ensures { λ r. ⌜ Served (mutexDeleteAnswer i force (view (now (s .entry)))) (chosen (mutexDelete i (view (now (s .entry))))) r (now (s .entry)) (now (s .exit)) ⌝ }
+    ensures { λ r. ⌜ Served (objectDeleteAnswer mutexes i force (view (now (s .entry)))) (chosen (objectDelete mutexes i (view (now (s .entry))))) r (now (s .entry)) (now (s .exit)) ⌝ }
 {
-    let n = delete_answer(s, i, force);
+    let x = cells::mutex_at(s, i as usize);
+    let holder = chain::holder_of(s, i as usize);
+    let n = object::delete_waiters(s, x.used, 16, 17, i, force);
     if object::refuses(n) {
         return n;
     }
-    let holder = chain::holder_of(s, i as usize);
-    ending::end_all(s, 3, 17 + i as usize);
     cells::set_mutex(
         s,
         i as usize,
@@ -94,20 +66,20 @@ pub fn delete_mutex(s: &mut [u8], i: u32, force: u32) -> u8
 
 // Whether the caller holds mutex i.
 fn is_own(s: &[u8], i: usize) -> bool
-    requires { ⌜ (i < 16) × Image (now s) ⌝ }
+    requires { ⌜ Image (now s) ⌝ }
     ensures { λ r. ⌜ r ≡ isOwn i (view (now (s .entry))) ⌝ }
 {
-    let x = cells::get_mutex(s, i);
+    let x = cells::mutex_at(s, i);
     let c = time::caller_of(s);
     x.holder as usize == c + 1
 }
 
 // The answer of a wait for mutex i, in use.
 fn take_answer(s: &[u8], i: usize, block: u32) -> u8
-    requires { ⌜ (i < 16) × Image (now s) ⌝ }
+    requires { ⌜ Image (now s) ⌝ }
     ensures { λ r. ⌜ r ≡ takeAnswer i block (view (now (s .entry))) ⌝ }
 {
-    let x = cells::get_mutex(s, i);
+    let x = cells::mutex_at(s, i);
     if x.holder == 0 {
         return 0;
     }
@@ -120,29 +92,9 @@ fn take_answer(s: &[u8], i: usize, block: u32) -> u8
     0
 }
 
-fn wait_answer(s: &[u8], i: u32, block: u32) -> u8
-    requires { ⌜ Image (now s) ⌝ }
-    ensures { λ r. ⌜ r ≡ mutexWaitAnswer i block (view (now (s .entry))) ⌝ }
-{
-    if cells::get_running(s) == 0 {
-        return 6;
-    }
-    if 16 <= i {
-        return 1;
-    }
-    let x = cells::get_mutex(s, i as usize);
-    if !(x.used == 1) {
-        return 2;
-    }
-    if 1 < block {
-        return 4;
-    }
-    take_answer(s, i as usize, block)
-}
-
 // The caller has mutex i at once, held by the task written h, n times over.
 fn take_mutex(s: &mut [u8], i: usize, h: u8, n: u8)
-    requires { ⌜ (i < 16) × Image (now s) ⌝ }
+    requires { ⌜ Image (now s) ⌝ }
     ensures { λ _. ⌜ view (now (s .exit)) ≡ taken (withMutex i (heldBy h n) (view (now (s .entry)))) ⌝ }
 {
     cells::set_mutex(s, i, held_by(h, n));
@@ -152,7 +104,7 @@ fn take_mutex(s: &mut [u8], i: usize, h: u8, n: u8)
 // The caller waits for mutex i.
 fn wait_for(s: &mut [u8], i: usize, limit: u32)
     requires { ⌜ (i < 16) × Image (now s) ⌝ }
-    ensures { λ _. ⌜ view (now (s .exit)) ≡ walk (holderOf (view (now (s .entry))) i) (blocked waitsMutex i limit (view (now (s .entry)))) ⌝ }
+    ensures { λ _. ⌜ view (now (s .exit)) ≡ waits mutexes i limit (view (now (s .entry))) ⌝ }
 {
     let holder = chain::holder_of(s, i);
     object::block_on(s, 3, i as u8, limit);
@@ -163,7 +115,7 @@ fn wait_change(s: &mut [u8], i: usize, limit: u32)
     requires { ⌜ (i < 16) × Image (now s) × (isOwn i (view (now s)) ≡ true → (mutexOf (view (now s)) i .holder ≡ 0 → ⊥) → mutexOf (view (now s)) i .nesting < 250) ⌝ }
     ensures { λ _. ⌜ view (now (s .exit)) ≡ mutexWait i limit (view (now (s .entry))) ⌝ }
 {
-    let x = cells::get_mutex(s, i);
+    let x = cells::mutex_at(s, i);
     if x.holder == 0 {
         let c = time::caller_of(s);
         take_mutex(s, i, c as u8 + 1, 1);
@@ -180,7 +132,9 @@ pub fn wait_mutex(s: &mut [u8], i: u32, block: u32, limit: u32) -> u8
     requires { ⌜ Image (now s) ⌝ }
     ensures { λ r. ⌜ Served (mutexWaitAnswer i block (view (now (s .entry)))) (chosen (mutexWait i limit (view (now (s .entry))))) r (now (s .entry)) (now (s .exit)) ⌝ }
 {
-    let n = wait_answer(s, i, block);
+    let x = cells::mutex_at(s, i as usize);
+    let m = take_answer(s, i as usize, block);
+    let n = object::wait_on(s, x.used, 16, i, block, m);
     if object::refuses(n) {
         return n;
     }
@@ -189,21 +143,12 @@ pub fn wait_mutex(s: &mut [u8], i: u32, block: u32, limit: u32) -> u8
     n
 }
 
-fn post_answer(s: &[u8], i: u32) -> u8
+// The answer of a post of a mutex in use.
+fn post_answer(s: &[u8], i: usize) -> u8
     requires { ⌜ Image (now s) ⌝ }
-    ensures { λ r. ⌜ r ≡ mutexPostAnswer i (view (now (s .entry))) ⌝ }
+    ensures { λ r. ⌜ r ≡ cond (not (isOwn i (view (now (s .entry))))) 9 0 ⌝ }
 {
-    if cells::get_running(s) == 0 {
-        return 6;
-    }
-    if 16 <= i {
-        return 1;
-    }
-    let x = cells::get_mutex(s, i as usize);
-    if !(x.used == 1) {
-        return 2;
-    }
-    if !is_own(s, i as usize) {
+    if !is_own(s, i) {
         return 9;
     }
     0
@@ -211,7 +156,7 @@ fn post_answer(s: &[u8], i: u32) -> u8
 
 // The task written w is the new holder of mutex i; none where w is 0.
 fn hand_to(s: &mut [u8], i: usize, w: u8)
-    requires { ⌜ (i < 16) × Image (now s) ⌝ }
+    requires { ⌜ Image (now s) ⌝ }
     ensures { λ _. ⌜ view (now (s .exit)) ≡ handed i w (view (now (s .entry))) ⌝ }
 {
     if w == 0 {
@@ -238,7 +183,7 @@ fn post_change(s: &mut [u8], i: usize)
     requires { ⌜ (i < 16) × Image (now s) ⌝ }
     ensures { λ _. ⌜ view (now (s .exit)) ≡ mutexPost i (view (now (s .entry))) ⌝ }
 {
-    let x = cells::get_mutex(s, i);
+    let x = cells::mutex_at(s, i);
     if 1 < x.nesting {
         cells::set_mutex(s, i, held_by(x.holder, x.nesting - 1));
         return;
@@ -250,7 +195,10 @@ pub fn post_mutex(s: &mut [u8], i: u32) -> u8
     requires { ⌜ Image (now s) ⌝ }
     ensures { λ r. ⌜ Served (mutexPostAnswer i (view (now (s .entry)))) (chosen (mutexPost i (view (now (s .entry))))) r (now (s .entry)) (now (s .exit)) ⌝ }
 {
-    let n = post_answer(s, i);
+    let x = cells::mutex_at(s, i as usize);
+    let m = post_answer(s, i as usize);
+    let k = object::on_object(x.used, 16, i, m);
+    let n = object::by_caller(s, k);
     if object::refuses(n) {
         return n;
     }
@@ -259,29 +207,10 @@ pub fn post_mutex(s: &mut [u8], i: u32) -> u8
     n
 }
 
-fn abort_answer(s: &[u8], i: u32) -> u8
-    requires { ⌜ Image (now s) ⌝ }
-    ensures { λ r. ⌜ r ≡ mutexAbortAnswer i (view (now (s .entry))) ⌝ }
-{
-    if 16 <= i {
-        return 1;
-    }
-    let x = cells::get_mutex(s, i as usize);
-    if !(x.used == 1) {
-        return 2;
-    }
-    object::abort_answer(s, 17 + i as usize)
-}
-
 pub fn abort_mutex(s: &mut [u8], i: u32) -> u8
     requires { ⌜ Image (now s) ⌝ }
-    ensures { λ r. ⌜ Served (mutexAbortAnswer i (view (now (s .entry)))) (chosen (mutexAbort i (view (now (s .entry))))) r (now (s .entry)) (now (s .exit)) ⌝ }
+    ensures { λ r. ⌜ Served (objectAbortAnswer mutexes i (view (now (s .entry)))) (chosen (objectAbort mutexes i (view (now (s .entry))))) r (now (s .entry)) (now (s .exit)) ⌝ }
 {
-    let n = abort_answer(s, i);
-    if object::refuses(n) {
-        return n;
-    }
-    object::abort_first(s, 17 + i as usize);
-    moves::choose(s);
-    n
+    let x = cells::mutex_at(s, i as usize);
+    object::abort_object(s, x.used, 16, 17, i)
 }

@@ -1,11 +1,15 @@
-// What the calls on semaphores and on mutexes share, and the test for a refusal, which is every call's.
+// The calls that every kind of object has, on its numbers: how many there are, the first of their queues, and the byte that says whether
+// number i is in use. And the test for a refusal, which is every call's.
 ghost use mathlib.Core.Path.{_≡_};
 ghost use mathlib.Core.Bool.{not};
-ghost use Prim.Native.Nat.{_-_, _<_};
+ghost use Prim.Native.Nat.{_+_, _-_};
 ghost use Rattle.rules.specs.Table.{firstIn};
 ghost use Rattle.rules.specs.Step.{changes};
-ghost use Rattle.rules.specs.Object.{hasWaiter, waitAnswer, limited, blocked, taken, abortAnswer, abort, deleteAnswer};
+ghost use Rattle.rules.specs.Move.{chosen};
+ghost use Rattle.rules.specs.Time.{byCaller};
+ghost use Rattle.rules.specs.Object.{onObject, createObject, yesNo, hasWaiter, waitAnswer, limited, blocked, taken, abortAnswer, abort, deleteAnswer, emptied};
 ghost use Rattle.table.specs.Image.{Image, view};
+ghost use Rattle.calls.specs.Served.{Served};
 use crate::ending;
 use crate::time;
 use table::cells;
@@ -18,8 +22,64 @@ pub fn refuses(n: u8) -> bool
     !((n == 0) | (n == 14))
 }
 
+// `answer`, where number i of `count` is in use.
+pub fn on_object(used: u8, count: u32, i: u32, answer: u8) -> u8
+    ensures { λ r. ⌜ r ≡ onObject count i used answer ⌝ }
+{
+    if count <= i {
+        return 1;
+    }
+    if !(used == 1) {
+        return 2;
+    }
+    answer
+}
+
+pub fn create_answer(used: u8, count: u32, i: u32) -> u8
+    ensures { λ r. ⌜ r ≡ createObject count i used ⌝ }
+{
+    if count <= i {
+        return 1;
+    }
+    if used == 1 {
+        return 3;
+    }
+    0
+}
+
+// `answer`, where the byte is a yes or a no.
+fn yes_no(byte: u32, answer: u8) -> u8
+    ensures { λ r. ⌜ r ≡ yesNo byte answer ⌝ }
+{
+    if 1 < byte {
+        return 4;
+    }
+    answer
+}
+
+// `answer`, where a task runs.
+pub fn by_caller(s: &[u8], answer: u8) -> u8
+    requires { ⌜ Image (now s) ⌝ }
+    ensures { λ r. ⌜ r ≡ byCaller (view (now (s .entry))) answer ⌝ }
+{
+    if cells::get_running(s) == 0 {
+        return 6;
+    }
+    answer
+}
+
+// The answer of a wait for number i, with the answer where it is in use.
+pub fn wait_on(s: &[u8], used: u8, count: u32, i: u32, block: u32, answer: u8) -> u8
+    requires { ⌜ Image (now s) ⌝ }
+    ensures { λ r. ⌜ r ≡ byCaller (view (now (s .entry))) (onObject count i used (yesNo block answer)) ⌝ }
+{
+    let n = yes_no(block, answer);
+    let m = on_object(used, count, i, n);
+    by_caller(s, m)
+}
+
 pub fn has_waiter(s: &[u8], q: usize) -> bool
-    requires { ⌜ (q < 33) × Image (now s) ⌝ }
+    requires { ⌜ Image (now s) ⌝ }
     ensures { λ r. ⌜ r ≡ hasWaiter q (view (now (s .entry))) ⌝ }
 {
     !(moves::first_in(s, q) == 0)
@@ -78,8 +138,8 @@ pub fn take_now(s: &mut [u8])
     moves::keep_task(s, i, k);
 }
 
-pub fn abort_answer(s: &[u8], q: usize) -> u8
-    requires { ⌜ (q < 33) × Image (now s) ⌝ }
+fn abort_answer(s: &[u8], q: usize) -> u8
+    requires { ⌜ Image (now s) ⌝ }
     ensures { λ r. ⌜ r ≡ abortAnswer q (view (now (s .entry))) ⌝ }
 {
     if !has_waiter(s, q) {
@@ -90,7 +150,7 @@ pub fn abort_answer(s: &[u8], q: usize) -> u8
 
 // The task in front of queue q; 0 where the queue is empty.
 pub fn first_task(s: &[u8], q: usize) -> usize
-    requires { ⌜ (q < 33) × Image (now s) ⌝ }
+    requires { ⌜ Image (now s) ⌝ }
     ensures { λ r. ⌜ r ≡ firstIn q (view (now (s .entry))) - 1 ⌝ }
 {
     let v = moves::first_in(s, q);
@@ -101,16 +161,16 @@ pub fn first_task(s: &[u8], q: usize) -> usize
 }
 
 // The wait of the first waiter of queue q ends: aborted.
-pub fn abort_first(s: &mut [u8], q: usize)
-    requires { ⌜ (q < 33) × Image (now s) ⌝ }
+fn abort_first(s: &mut [u8], q: usize)
+    requires { ⌜ Image (now s) ⌝ }
     ensures { λ _. ⌜ view (now (s .exit)) ≡ abort q (view (now (s .entry))) ⌝ }
 {
     let i = first_task(s, q);
     ending::end_wait(s, 2, i);
 }
 
-pub fn delete_answer(s: &[u8], force: u32, q: usize) -> u8
-    requires { ⌜ (q < 33) × Image (now s) ⌝ }
+fn delete_answer(s: &[u8], force: u32, q: usize) -> u8
+    requires { ⌜ Image (now s) ⌝ }
     ensures { λ r. ⌜ r ≡ deleteAnswer force q (view (now (s .entry))) ⌝ }
 {
     if 1 < force {
@@ -120,4 +180,35 @@ pub fn delete_answer(s: &[u8], force: u32, q: usize) -> u8
         return 13;
     }
     0
+}
+
+// The abort of number i.
+pub fn abort_object(s: &mut [u8], used: u8, count: u32, first: u8, i: u32) -> u8
+    requires { ⌜ Image (now s) ⌝ }
+    ensures { λ r. ⌜ Served (onObject count i used (abortAnswer (first + i) (view (now (s .entry))))) (chosen (abort (first + i) (view (now (s .entry))))) r (now (s .entry)) (now (s .exit)) ⌝ }
+{
+    let q = first as usize + i as usize;
+    let m = abort_answer(s, q);
+    let n = on_object(used, count, i, m);
+    if refuses(n) {
+        return n;
+    }
+    abort_first(s, q);
+    moves::choose(s);
+    n
+}
+
+// The answer of a delete of number i; where it is done, each of its waiters is let go. Then the object goes.
+pub fn delete_waiters(s: &mut [u8], used: u8, count: u32, first: u8, i: u32, force: u32) -> u8
+    requires { ⌜ Image (now s) ⌝ }
+    ensures { λ r. ⌜ Served (onObject count i used (deleteAnswer force (first + i) (view (now (s .entry))))) (emptied (first + i) (view (now (s .entry)))) r (now (s .entry)) (now (s .exit)) ⌝ }
+{
+    let q = first as usize + i as usize;
+    let m = delete_answer(s, force, q);
+    let n = on_object(used, count, i, m);
+    if refuses(n) {
+        return n;
+    }
+    ending::end_all(s, 3, q);
+    n
 }

@@ -1,9 +1,12 @@
-// Semaphore create, delete, wait, post, abort.
+// Semaphores: create, delete, wait, post, abort.
 ghost use mathlib.Core.Path.{_≡_};
+ghost use mathlib.Core.Bool.{cond};
 ghost use Prim.Native.Nat.{_<_};
+ghost use lib.Dec.{ltb, leb};
 ghost use Rattle.rules.specs.Table.{semaphoreOf};
 ghost use Rattle.rules.specs.Move.{chosen};
-ghost use Rattle.rules.specs.Semaphore.{semaphoreCreateAnswer, semaphoreCreate, semaphoreDeleteAnswer, semaphoreDelete, semaphoreWaitAnswer, semaphoreWait, semaphorePostAnswer, semaphorePost, semaphoreAbortAnswer, semaphoreAbort};
+ghost use Rattle.rules.specs.Object.{waitAnswer, objectCreateAnswer, objectDeleteAnswer, objectDelete, objectAbortAnswer, objectAbort};
+ghost use Rattle.rules.specs.Semaphore.{semaphores, semaphoreCreate, semaphoreWaitAnswer, semaphoreWait, semaphorePostAnswer, semaphorePost};
 ghost use Rattle.table.specs.Image.{Image, view};
 ghost use Rattle.calls.specs.Served.{Served};
 use crate::ending;
@@ -11,25 +14,12 @@ use crate::object;
 use table::cells;
 use table::moves;
 
-fn create_answer(s: &[u8], i: u32) -> u8
-    requires { ⌜ Image (now s) ⌝ }
-    ensures { λ r. ⌜ r ≡ semaphoreCreateAnswer i (view (now (s .entry))) ⌝ }
-{
-    if 16 <= i {
-        return 1;
-    }
-    let x = cells::get_semaphore(s, i as usize);
-    if x.used == 1 {
-        return 3;
-    }
-    0
-}
-
 pub fn create_semaphore(s: &mut [u8], i: u32, count: u32) -> u8
     requires { ⌜ Image (now s) ⌝ }
-    ensures { λ r. ⌜ Served (semaphoreCreateAnswer i (view (now (s .entry)))) (chosen (semaphoreCreate i count (view (now (s .entry))))) r (now (s .entry)) (now (s .exit)) ⌝ }
+    ensures { λ r. ⌜ Served (objectCreateAnswer semaphores i (view (now (s .entry)))) (chosen (semaphoreCreate i count (view (now (s .entry))))) r (now (s .entry)) (now (s .exit)) ⌝ }
 {
-    let n = create_answer(s, i);
+    let x = cells::semaphore_at(s, i as usize);
+    let n = object::create_answer(x.used, 16, i);
     if object::refuses(n) {
         return n;
     }
@@ -45,52 +35,26 @@ pub fn create_semaphore(s: &mut [u8], i: u32, count: u32) -> u8
     n
 }
 
-fn delete_answer(s: &[u8], i: u32, force: u32) -> u8
-    requires { ⌜ Image (now s) ⌝ }
-    ensures { λ r. ⌜ r ≡ semaphoreDeleteAnswer i force (view (now (s .entry))) ⌝ }
-{
-    if 16 <= i {
-        return 1;
-    }
-    let x = cells::get_semaphore(s, i as usize);
-    if !(x.used == 1) {
-        return 2;
-    }
-    object::delete_answer(s, force, 1 + i as usize)
-}
-
 pub fn delete_semaphore(s: &mut [u8], i: u32, force: u32) -> u8
     requires { ⌜ Image (now s) ⌝ }
-    ensures { λ r. ⌜ Served (semaphoreDeleteAnswer i force (view (now (s .entry)))) (chosen (semaphoreDelete i (view (now (s .entry))))) r (now (s .entry)) (now (s .exit)) ⌝ }
+    ensures { λ r. ⌜ Served (objectDeleteAnswer semaphores i force (view (now (s .entry)))) (chosen (objectDelete semaphores i (view (now (s .entry))))) r (now (s .entry)) (now (s .exit)) ⌝ }
 {
-    let n = delete_answer(s, i, force);
+    let x = cells::semaphore_at(s, i as usize);
+    let n = object::delete_waiters(s, x.used, 16, 1, i, force);
     if object::refuses(n) {
         return n;
     }
-    ending::end_all(s, 3, 1 + i as usize);
     cells::set_semaphore(s, i as usize, rules::Semaphore { used: 0, count: 0 });
     moves::choose(s);
     n
 }
 
-fn wait_answer(s: &[u8], i: u32, block: u32) -> u8
+// The answer of a wait for a semaphore in use.
+fn take_answer(s: &[u8], count: u32, block: u32) -> u8
     requires { ⌜ Image (now s) ⌝ }
-    ensures { λ r. ⌜ r ≡ semaphoreWaitAnswer i block (view (now (s .entry))) ⌝ }
+    ensures { λ r. ⌜ r ≡ cond (ltb 0 count) 0 (waitAnswer block (view (now (s .entry)))) ⌝ }
 {
-    if cells::get_running(s) == 0 {
-        return 6;
-    }
-    if 16 <= i {
-        return 1;
-    }
-    let x = cells::get_semaphore(s, i as usize);
-    if !(x.used == 1) {
-        return 2;
-    }
-    if 1 < block {
-        return 4;
-    }
-    if 0 < x.count {
+    if 0 < count {
         return 0;
     }
     object::wait_answer(s, block)
@@ -100,7 +64,7 @@ fn wait_change(s: &mut [u8], i: usize, limit: u32)
     requires { ⌜ (i < 16) × Image (now s) ⌝ }
     ensures { λ _. ⌜ view (now (s .exit)) ≡ semaphoreWait i limit (view (now (s .entry))) ⌝ }
 {
-    let x = cells::get_semaphore(s, i);
+    let x = cells::semaphore_at(s, i);
     if 0 < x.count {
         cells::set_semaphore(
             s,
@@ -120,7 +84,9 @@ pub fn wait_semaphore(s: &mut [u8], i: u32, block: u32, limit: u32) -> u8
     requires { ⌜ Image (now s) ⌝ }
     ensures { λ r. ⌜ Served (semaphoreWaitAnswer i block (view (now (s .entry)))) (chosen (semaphoreWait i limit (view (now (s .entry))))) r (now (s .entry)) (now (s .exit)) ⌝ }
 {
-    let n = wait_answer(s, i, block);
+    let x = cells::semaphore_at(s, i as usize);
+    let m = take_answer(s, x.count, block);
+    let n = object::wait_on(s, x.used, 16, i, block, m);
     if object::refuses(n) {
         return n;
     }
@@ -129,18 +95,11 @@ pub fn wait_semaphore(s: &mut [u8], i: u32, block: u32, limit: u32) -> u8
     n
 }
 
-fn post_answer(s: &[u8], i: u32) -> u8
-    requires { ⌜ Image (now s) ⌝ }
-    ensures { λ r. ⌜ r ≡ semaphorePostAnswer i (view (now (s .entry))) ⌝ }
+// The answer of a post of a semaphore in use.
+fn post_answer(count: u32) -> u8
+    ensures { λ r. ⌜ r ≡ cond (leb 4294967295 count) 11 0 ⌝ }
 {
-    if 16 <= i {
-        return 1;
-    }
-    let x = cells::get_semaphore(s, i as usize);
-    if !(x.used == 1) {
-        return 2;
-    }
-    if 4294967295 <= x.count {
+    if 4294967295 <= count {
         return 11;
     }
     0
@@ -150,12 +109,12 @@ fn post_change(s: &mut [u8], i: usize)
     requires { ⌜ (i < 16) × Image (now s) × (semaphoreOf (view (now s)) i .count < 4294967295) ⌝ }
     ensures { λ _. ⌜ view (now (s .exit)) ≡ semaphorePost i (view (now (s .entry))) ⌝ }
 {
+    let x = cells::semaphore_at(s, i);
     if object::has_waiter(s, 1 + i) {
         let first = object::first_task(s, 1 + i);
         ending::end_wait(s, 0, first);
         return;
     }
-    let x = cells::get_semaphore(s, i);
     cells::set_semaphore(
         s,
         i,
@@ -170,7 +129,9 @@ pub fn post_semaphore(s: &mut [u8], i: u32) -> u8
     requires { ⌜ Image (now s) ⌝ }
     ensures { λ r. ⌜ Served (semaphorePostAnswer i (view (now (s .entry)))) (chosen (semaphorePost i (view (now (s .entry))))) r (now (s .entry)) (now (s .exit)) ⌝ }
 {
-    let n = post_answer(s, i);
+    let x = cells::semaphore_at(s, i as usize);
+    let m = post_answer(x.count);
+    let n = object::on_object(x.used, 16, i, m);
     if object::refuses(n) {
         return n;
     }
@@ -179,29 +140,10 @@ pub fn post_semaphore(s: &mut [u8], i: u32) -> u8
     n
 }
 
-fn abort_answer(s: &[u8], i: u32) -> u8
-    requires { ⌜ Image (now s) ⌝ }
-    ensures { λ r. ⌜ r ≡ semaphoreAbortAnswer i (view (now (s .entry))) ⌝ }
-{
-    if 16 <= i {
-        return 1;
-    }
-    let x = cells::get_semaphore(s, i as usize);
-    if !(x.used == 1) {
-        return 2;
-    }
-    object::abort_answer(s, 1 + i as usize)
-}
-
 pub fn abort_semaphore(s: &mut [u8], i: u32) -> u8
     requires { ⌜ Image (now s) ⌝ }
-    ensures { λ r. ⌜ Served (semaphoreAbortAnswer i (view (now (s .entry)))) (chosen (semaphoreAbort i (view (now (s .entry))))) r (now (s .entry)) (now (s .exit)) ⌝ }
+    ensures { λ r. ⌜ Served (objectAbortAnswer semaphores i (view (now (s .entry)))) (chosen (objectAbort semaphores i (view (now (s .entry))))) r (now (s .entry)) (now (s .exit)) ⌝ }
 {
-    let n = abort_answer(s, i);
-    if object::refuses(n) {
-        return n;
-    }
-    object::abort_first(s, 1 + i as usize);
-    moves::choose(s);
-    n
+    let x = cells::semaphore_at(s, i as usize);
+    object::abort_object(s, x.used, 16, 1, i)
 }

@@ -13,9 +13,9 @@ use Rattle.rules.specs.Move.{isRunning, hasPeer}
 use Rattle.rules.specs.Task.{isLocked, createAnswer, holdsBelow, deleteAnswer, priorityAnswer, suspendAnswer, resumeAnswer}
 use Rattle.rules.specs.Time.{callerOf, yieldAnswer, delayAnswer, delayResumeAnswer}
 use Rattle.rules.specs.Lock.{lockAnswer, unlockAnswer}
-use Rattle.rules.specs.Object.{onObject, waitAnswer}
-use Rattle.rules.specs.Semaphore.{semaphoreCreateAnswer, semaphoreDeleteAnswer, semaphoreWaitAnswer, semaphorePostAnswer, semaphoreAbortAnswer}
-use Rattle.rules.specs.Mutex.{mutexCreateAnswer, mutexDeleteAnswer, mutexWaitAnswer, mutexPostAnswer, mutexAbortAnswer}
+use Rattle.rules.specs.Object.{onObject, waitAnswer, objectCreateAnswer, objectDeleteAnswer, objectAbortAnswer}
+use Rattle.rules.specs.Semaphore.{semaphoreWaitAnswer, semaphorePostAnswer}
+use Rattle.rules.specs.Mutex.{mutexWaitAnswer, mutexPostAnswer}
 use Rattle.rules.specs.Step.{changes, answerTo, forInterrupts, answer}
 use Rattle.rules.specs.declared.Call.{Call}
 use Rattle.rules.specs.declared.Call.the-variants.{TaskCreate, TaskDelete, ChangePriority, Suspend, Resume, Yield, Delay, DelayResume, Lock, Unlock, Tick, SemaphoreCreate, SemaphoreDelete, SemaphoreWait, SemaphorePost, SemaphoreAbort, MutexCreate, MutexDelete, MutexWait, MutexPost, MutexAbort}
@@ -136,7 +136,7 @@ module _ {interrupt : Bool} {t : Table} {c : Call} where
 module _ (interrupt : Bool) (t : Table) where
   -- Each call made by a task.
   pub answers : (c : Call) → Answers interrupt t c (answerTo c t)
-  unfolding countOf numberOf usedIn answerTo createAnswer deleteAnswer priorityAnswer suspendAnswer resumeAnswer yieldAnswer delayAnswer delayResumeAnswer lockAnswer unlockAnswer semaphoreCreateAnswer semaphoreDeleteAnswer semaphoreWaitAnswer semaphorePostAnswer semaphoreAbortAnswer mutexCreateAnswer mutexDeleteAnswer mutexWaitAnswer mutexPostAnswer mutexAbortAnswer
+  unfolding countOf numberOf usedIn answerTo createAnswer deleteAnswer priorityAnswer suspendAnswer resumeAnswer yieldAnswer delayAnswer delayResumeAnswer lockAnswer unlockAnswer objectCreateAnswer objectDeleteAnswer objectAbortAnswer semaphoreWaitAnswer semaphorePostAnswer mutexWaitAnswer mutexPostAnswer
   answers (TaskCreate i base quantum) =
       new-one (aTask {i = i}) λ l u.
       past (great base quantum) refl (⊎-elim createBase createQuantum) λ v.

@@ -1,48 +1,42 @@
 -- Each call that is accepted on a sound table leaves all right but the choice of the running task. Assumes nothing.
-use mathlib.Core.Path.{_≡_, refl, ap, subst}
-use mathlib.Core.Logic.{inl, ⊎-elim, _≢_}
+use mathlib.Core.Path.{_≡_, refl, sym, subst, _∙_}
+use mathlib.Core.Logic.{_⊎_, inl, inr, ⊎-elim, _≢_}
 use mathlib.Core.Bool.{Bool, true, false, cond, not}
 use Prim.Native.Nat.{ℕ, _+_, _-_, _≤_, _<_}
 use native.Mathlib.Decide.{ℕ-discrete}
 use native.Mathlib.Omega.{arith}
 use lib.Dec.{eqb, ltb}
 use borrow.Author.Tests.{eqb-true, eqb-false, ltb-true, ltb-false}
-use Rattle.rules.specs.Sizes.{taskCount, semaphoreCount, mutexCount, mostNested, mostCount, ticksRound, waitsSemaphore, waitsMutex, given, aborted}
-use Rattle.rules.specs.Table.{Table, semaphoreOf, mutexOf, queueCount, ableQueue, semaphoreQueue, mutexQueue, firstIn, isAble, written, noMutex, counting, heldBy, withSemaphore, withMutex}
-use Rattle.rules.specs.Move.{walk, holderOf, ended}
+use Rattle.rules.specs.Sizes.{taskCount, semaphoreCount, mutexCount, mostNested, mostCount, ticksRound, waitsMutex, given, aborted}
+use Rattle.rules.specs.Table.{Table, taskOf, semaphoreOf, mutexOf, queueCount, ableQueue, semaphoreQueue, firstIn, isAble, written, counting, heldBy, withSemaphore, withMutex}
+use Rattle.rules.specs.Move.{ended}
 use Rattle.rules.specs.Sound.{Empty, Sound}
 use Rattle.rules.specs.Time.{callerOf, yield, delayResume}
 use Rattle.rules.specs.Lock.{lock, unlock}
-use Rattle.rules.specs.Object.{blocked, taken, abort, emptied}
-use Rattle.rules.specs.Semaphore.{semaphoreCreate, semaphoreDelete, semaphoreWait, semaphorePost, semaphoreAbort}
-use Rattle.rules.specs.Mutex.{released, mutexCreate, mutexDelete, mutexWait, mutexPost, mutexAbort}
+use Rattle.rules.specs.Object.{waits, taken}
+use Rattle.rules.specs.Semaphore.{semaphores, semaphoreCreate, semaphoreWait, semaphorePost}
+use Rattle.rules.specs.Mutex.{mutexes, released, mutexCreate, mutexWait, mutexPost}
 use Rattle.rules.specs.Step.{changeBy, Bounded}
 use Rattle.rules.specs.declared.Call.{Call}
 use Rattle.rules.specs.declared.Call.the-variants.{TaskCreate, TaskDelete, ChangePriority, Suspend, Resume, Yield, Delay, DelayResume, Lock, Unlock, Tick, SemaphoreCreate, SemaphoreDelete, SemaphoreWait, SemaphorePost, SemaphoreAbort, MutexCreate, MutexDelete, MutexWait, MutexPost, MutexAbort}
 use Rattle.laws.specs.Settled.{Settled, NotDue, sound-settled, sound-notDue, sound-runs, sized}
-use Rattle.laws.specs.Fields.{frame}
-use Rattle.laws.specs.Graph.{holders-same}
-use Rattle.laws.specs.Becomes.{then-walk, delay-becomes, blocked-becomes, caller}
-use Rattle.laws.specs.Due.{create-due, delete-due, changePriority-due, suspend-due, resume-due, rotate-due, delay-due, semaphoreBlocked-due, mutexBlocked-due, taken-due, mutexGone-due, released-due}
-use Rattle.laws.specs.Running.{RunsOn, right-on, caller-able, depth-runs, same-runs, unlocked-runs, create-runs, delete-runs, changePriority-runs, suspend-runs, resume-runs, rotate-runs, taken-runs, mutexGone-runs, released-runs}
-use Rattle.laws.specs.Kept.{list-settled, create-settled, rotate-settled, delete-settled, changePriority-settled, suspend-settled, resume-settled, delay-settled, taken-settled, semaphoreBlocked-settled, mutexBlocked-settled, released-settled, counting-settled, semaphoreGone-settled, mutexCreated-settled, mutexTaken-settled, mutexNested-settled, mutexGone-settled}
-use Rattle.laws.specs.Ending.{Unchosen, sound-unchosen, waiter-ended, first-waiter, emptied-all, ticked-unchosen}
+use Rattle.laws.specs.Graph.{held-alike}
+use Rattle.laws.specs.Becomes.{delay-becomes, caller, caller-used}
+use Rattle.laws.specs.Due.{create-due, delete-due, changePriority-due, suspend-due, resume-due, rotate-due, delay-due, taken-due, released-due}
+use Rattle.laws.specs.Running.{RunsOn, right-on, caller-able, depth-runs, unlocked-runs, create-runs, delete-runs, changePriority-runs, suspend-runs, resume-runs, rotate-runs, taken-runs, released-runs}
+use Rattle.laws.specs.Kept.{list-settled, create-settled, rotate-settled, delete-settled, changePriority-settled, suspend-settled, resume-settled, delay-settled, taken-settled, released-settled}
+use Rattle.laws.specs.Ending.{Unchosen, sound-unchosen, waiter-ended, first-waiter, ticked-unchosen}
 use Rattle.laws.specs.Accepted.{Accepted}
+use Rattle.laws.specs.Stands.{semaphore-unwaited, mutex-unwaited}
+use Rattle.laws.specs.Linked.{HeldApart}
+use Rattle.laws.specs.Objects.{unheld, held-right}
+use Rattle.laws.specs.Families.{stored-unchosen, linked, semaphore-stores, mutex-stores, unwaited, semaphores-lawful, mutexes-lawful, abort-keeps, delete-keeps, waits-keeps}
 
 -- ---- parts of calls
 
 not-true : (b : Bool) → b ≢ true → b ≡ false
 not-true true d = absurd (d refl)
 not-true false d = refl
-
--- An object changes, and no task.
-stored-unchosen : {t u : Table} → Unchosen t → u .tasks ≡ t .tasks → frame u ≡ frame t → Settled u → Unchosen u
-stored-unchosen {t} {u} h tasks same settled =
-    record {
-      settled = settled;
-      notDue = λ i l. rw (tasks, ap (λ (x : Table). x .tick) same) (h .notDue i l);
-      runs = same-runs (λ j. rw tasks) same (h .runs);
-    }
 
 -- The first waiter of a queue is let go.
 first-ended : {t : Table} → Unchosen t → (outcome : ℕ) → outcome ≤ aborted → (q : ℕ) → q < queueCount → q ≢ ableQueue → firstIn q t ≢ 0 → Unchosen (ended outcome (firstIn q t - 1) t)
@@ -88,11 +82,11 @@ module _ {t : Table} (s : Sound t) where
       go (yes e) = e
       go (no d) = absurd (c (h .objects .counts o l d))
 
-  semaphoreDelete-unchosen : (o : ℕ) → o < semaphoreCount → Unchosen (semaphoreDelete o t)
-  unfolding semaphoreDelete
-  semaphoreDelete-unchosen o l =
-      let e = emptied-all (semaphoreQueue o) (omega arith) (λ z. omega arith) whole in
-      stored-unchosen (e .unchosen) refl refl (semaphoreGone-settled (e .unchosen .settled) o l (e .empty))
+  -- A semaphore for which nobody waits has another count.
+  counting-unchosen : (o n : ℕ) → o < semaphoreCount → n ≤ mostCount → Empty (semaphoreQueue o) t → Unchosen (withSemaphore o (counting n) t)
+  counting-unchosen o n l m z =
+      stored-unchosen whole
+      (semaphore-stores h o (counting n) (record { used = omega arith; count = m; free = λ e. absurd (omega arith) }) (λ j k e x. absurd (semaphore-unwaited (h .queued) o l z j k e x)))
 
   semaphoreWait-unchosen : (o limit : ℕ) → limit < ticksRound → t .running ≢ 0 → o < semaphoreCount → semaphoreOf t o .used ≡ 1 → (semaphoreOf t o .count ≡ 0 → t .depth ≡ 0)
       → Unchosen (semaphoreWait o limit t)
@@ -102,18 +96,13 @@ module _ {t : Table} (s : Sound t) where
       less : Table
       less = withSemaphore o (counting (semaphoreOf t o .count - 1)) t
 
-      go : (b : Bool) → ltb 0 (semaphoreOf t o .count) ≡ b → Unchosen (cond b (taken less) (blocked waitsSemaphore o limit t))
+      go : (b : Bool) → ltb 0 (semaphoreOf t o .count) ≡ b → Unchosen (cond b (taken less) (waits semaphores o limit t))
       go true e =
           let some : 0 < semaphoreOf t o .count = ltb-true 0 _ e in
-          let counts = counting-settled h o l (semaphoreOf t o .count - 1) (omega (arith, h .objects .semaphoreRanges o l .1)) (inl (counted-empty o l (λ z. omega arith))) in
-          taken-unchosen {t = less} (stored-unchosen whole refl refl counts) runner (runs-able c)
+          taken-unchosen {t = less} (counting-unchosen o _ l (omega (arith, h .objects .semaphoreRanges o l .1)) (counted-empty o l (λ z. omega arith))) runner (runs-able c)
       go false e =
-          let zero' : semaphoreOf t o .count ≡ 0 = omega (arith, ltb-false 0 (semaphoreOf t o .count) e) in
-          record {
-            settled = semaphoreBlocked-settled h runner (runs-able c) o limit l u zero' most;
-            notDue = semaphoreBlocked-due h due runner o limit most;
-            runs = unlocked-runs (blocked-becomes runner (sized h) waitsSemaphore o limit) (free zero') runs;
-          }
+          let none : semaphoreOf t o .count ≡ 0 = omega (arith, ltb-false 0 (semaphoreOf t o .count) e) in
+          waits-keeps semaphores-lawful whole o l limit most runner (runs-able c) (free none) (record { semaphore = λ e. record { used = u; count = none }; mutex = λ e. absurd (omega arith) })
 
   semaphorePost-unchosen : (o : ℕ) → o < semaphoreCount → semaphoreOf t o .count < mostCount → Unchosen (semaphorePost o t)
   unfolding semaphorePost
@@ -123,23 +112,26 @@ module _ {t : Table} (s : Sound t) where
       more = withSemaphore o (counting (semaphoreOf t o .count + 1)) t
 
       go : (b : Bool) → eqb (firstIn (semaphoreQueue o) t) 0 ≡ b → Unchosen (cond (not b) (ended given (firstIn (semaphoreQueue o) t - 1) t) more)
-      go true e = stored-unchosen {u = more} whole refl refl (counting-settled h o l (semaphoreOf t o .count + 1) (omega arith) (inl (eqb-true _ _ e)))
+      go true e = counting-unchosen o _ l (omega arith) (eqb-true _ _ e)
       go false e = first-ended whole given (omega arith) (semaphoreQueue o) (omega arith) (λ z. omega arith) (eqb-false _ _ e)
 
   -- ---- mutexes
 
-  mutexDelete-unchosen : (m : ℕ) → m < mutexCount → Unchosen (mutexDelete m t)
-  unfolding mutexDelete
-  mutexDelete-unchosen m l =
-      let u = emptied (mutexQueue m) t in
-      let e = emptied-all (mutexQueue m) (omega arith) (λ z. omega arith) whole in
-      let k = e .unchosen .settled in
-      subst (λ (holder : ℕ → ℕ). Unchosen (walk (holder m) (withMutex m noMutex u))) (holders-same t u (ap (λ (x : Table). x .mutexes) (e .rests)))
-      (record {
-        settled = mutexGone-settled k m l (e .empty);
-        notDue = mutexGone-due k (e .unchosen .notDue) m;
-        runs = mutexGone-runs k (e .unchosen .runs) m;
-      })
+  -- A mutex is held by the task written v, n times over: it was free, or v held it.
+  held-unchosen : (m v n : ℕ) → m < mutexCount → v ≢ 0 → v ≤ taskCount → 1 ≤ n → n ≤ mostNested → taskOf t (v - 1) .used ≡ 1
+      → (mutexOf t m .holder ≡ 0) ⊎ (mutexOf t m .holder ≡ v)
+      → Unchosen (withMutex m (heldBy v n) t)
+  held-unchosen m v n l d r some most u was =
+      stored-unchosen whole
+      (mutex-stores h m (heldBy v n) (held-right v n d r some most) (λ j k e x. apart (waiter j k e x) was) (λ e. u)
+      (⊎-elim (λ z. unwaited h m (heldBy v n) l (h .objects .freeMutexes m l z .1)) (λ e. held-alike m (heldBy v n) t (sym e)) was))
+    where
+      waiter : (j : ℕ) → j < taskCount → taskOf t j .state ≡ waitsMutex → taskOf t j .object ≡ m → HeldApart j (mutexOf t m)
+      waiter j k e x = subst (λ (i : ℕ). HeldApart j (mutexOf t i)) x (linked h .waits j k .mutex e)
+
+      apart : {j : ℕ} → HeldApart j (mutexOf t m) → (mutexOf t m .holder ≡ 0) ⊎ (mutexOf t m .holder ≡ v) → HeldApart j (heldBy v n)
+      apart w (inl z) = absurd (w .held z)
+      apart w (inr e) = record { used = refl; held = d; apart = λ z. w .apart (e ∙ z) }
 
   module _ (m : ℕ) (c : t .running ≢ 0) (l : m < mutexCount) (u : mutexOf t m .used ≡ 1) where
     mutexWait-unchosen : (limit : ℕ) → limit < ticksRound → (mutexOf t m .holder ≡ written (callerOf t) → mutexOf t m .nesting < mostNested)
@@ -155,20 +147,21 @@ module _ {t : Table} (s : Sound t) where
         again = withMutex m (heldBy (mutexOf t m .holder) (mutexOf t m .nesting + 1)) t
 
         go : (a : Bool) → eqb (mutexOf t m .holder) 0 ≡ a → (b : Bool) → eqb (mutexOf t m .holder) (written (callerOf t)) ≡ b
-            → Unchosen (cond (not (not a)) (taken first) (cond b (taken again) (walk (holderOf t m) (blocked waitsMutex m limit t))))
+            → Unchosen (cond (not (not a)) (taken first) (cond b (taken again) (waits mutexes m limit t)))
         go true e b f =
-            taken-unchosen {t = first} (stored-unchosen whole refl refl (mutexTaken-settled h m l u (eqb-true _ _ e) (callerOf t) runner (runs-able c))) runner (runs-able c)
+            taken-unchosen {t = first}
+            (held-unchosen m _ 1 l (omega arith) (omega (arith, runner)) (omega arith) (omega arith) (subst (λ (j : ℕ). taskOf t j .used ≡ 1) (omega arith) (caller-used t (runs-able c))) (inl (eqb-true _ _ e)))
+            runner (runs-able c)
         go false e true f =
             let held : mutexOf t m .holder ≢ 0 = eqb-false _ _ e in
-            taken-unchosen {t = again} (stored-unchosen whole refl refl (mutexNested-settled h m l u held (mutexOf t m .nesting + 1) (omega arith) (omega (arith, room (eqb-true _ _ f))))) runner (runs-able c)
+            taken-unchosen {t = again}
+            (held-unchosen m _ _ l held (h .objects .mutexRanges m l .1) (omega arith) (omega (arith, room (eqb-true _ _ f))) (h .objects .holdersInUse m l held) (inr refl))
+            runner (runs-able c)
         go false e false f =
             let held : mutexOf t m .holder ≢ 0 = eqb-false _ _ e in
             let other : mutexOf t m .holder ≢ written (callerOf t) = eqb-false _ _ f in
-            record {
-              settled = mutexBlocked-settled h runner (runs-able c) m limit l u held other most;
-              notDue = mutexBlocked-due h due runner m limit most;
-              runs = unlocked-runs (then-walk (holderOf t m) (blocked-becomes runner (sized h) waitsMutex m limit)) (free held other) runs;
-            }
+            waits-keeps mutexes-lawful whole m l limit most runner (runs-able c) (free held other)
+            (record { semaphore = λ e. absurd (omega arith); mutex = λ e. record { used = u; held = held; apart = other } })
 
     mutexPost-unchosen : mutexOf t m .holder ≡ written (callerOf t) → Unchosen (mutexPost m t)
     unfolding mutexPost
@@ -180,8 +173,8 @@ module _ {t : Table} (s : Sound t) where
         go : (b : Bool) → ltb 1 (mutexOf t m .nesting) ≡ b → Unchosen (cond b fewer (released m t))
         go true e =
             let some : 1 < mutexOf t m .nesting = ltb-true 1 _ e in
-            stored-unchosen {u = fewer} whole refl refl
-            (mutexNested-settled h m l u (λ z. omega arith) (mutexOf t m .nesting - 1) (omega arith) (omega (arith, h .objects .mutexRanges m l .2)))
+            let held : mutexOf t m .holder ≢ 0 = λ z. omega arith in
+            held-unchosen m _ _ l held (h .objects .mutexRanges m l .1) (omega arith) (omega (arith, h .objects .mutexRanges m l .2)) (h .objects .holdersInUse m l held) (inr refl)
         go false e =
             record {
               settled = released-settled h runner (runs-able c) m l u own;
@@ -192,7 +185,7 @@ module _ {t : Table} (s : Sound t) where
   -- ---- each call
 
   pub change-unchosen : (c : Call) → Bounded c → Accepted c t → Unchosen (changeBy c t)
-  unfolding changeBy Bounded yield delayResume lock unlock abort semaphoreCreate semaphoreAbort mutexCreate mutexAbort
+  unfolding changeBy Bounded yield delayResume lock unlock semaphoreCreate mutexCreate
   change-unchosen (TaskCreate i base quantum) b (l, u, p, q) =
       record {
         settled = create-settled h i l base quantum (omega (arith, h .tasks i l .inRange .used)) p q;
@@ -250,16 +243,16 @@ module _ {t : Table} (s : Sound t) where
       }
   change-unchosen Tick b n = ticked-unchosen s
   change-unchosen (SemaphoreCreate o n) b (l, u) =
-      stored-unchosen {u = withSemaphore o (counting n) t} whole refl refl
-      (counting-settled h o l n (omega arith) (inl (h .objects .freeSemaphores o l (omega (arith, h .objects .semaphoreRanges o l .0)) .1)))
-  change-unchosen (SemaphoreDelete o force) b l = semaphoreDelete-unchosen o l
+      counting-unchosen o n l (omega arith) (h .objects .freeSemaphores o l (omega (arith, h .objects .semaphoreRanges o l .0)) .1)
+  change-unchosen (SemaphoreDelete o force) b l = delete-keeps semaphores-lawful whole o l
   change-unchosen (SemaphoreWait o block limit) b (c, l, u, free) = semaphoreWait-unchosen o limit b c l u free
   change-unchosen (SemaphorePost o) b (l, n) = semaphorePost-unchosen o l n
-  change-unchosen (SemaphoreAbort o) b (l, some) = first-ended whole aborted (omega arith) (semaphoreQueue o) (omega arith) (λ z. omega arith) some
+  change-unchosen (SemaphoreAbort o) b (l, some) = abort-keeps semaphores-lawful whole o l some
   change-unchosen (MutexCreate m) b (l, u) =
-      stored-unchosen {u = withMutex m (heldBy 0 0) t} whole refl refl
-      (mutexCreated-settled h m l (omega (arith, h .objects .mutexRanges m l .0)))
-  change-unchosen (MutexDelete m force) b l = mutexDelete-unchosen m l
+      let z = h .objects .freeNumbers m l (omega (arith, h .objects .mutexRanges m l .0)) in
+      stored-unchosen whole
+      (mutex-stores h m (heldBy 0 0) unheld (λ j k e x. absurd (mutex-unwaited (h .queued) m l (z .1) j k e x)) (λ d. absurd (d refl)) (unwaited h m (heldBy 0 0) l (z .1)))
+  change-unchosen (MutexDelete m force) b l = delete-keeps mutexes-lawful whole m l
   change-unchosen (MutexWait m block limit) b (c, l, u, room, free) = mutexWait-unchosen m c l u limit b room free
   change-unchosen (MutexPost m) b (c, l, u, own) = mutexPost-unchosen m c l u own
-  change-unchosen (MutexAbort m) b (l, some) = first-ended whole aborted (omega arith) (mutexQueue m) (omega arith) (λ z. omega arith) some
+  change-unchosen (MutexAbort m) b (l, some) = abort-keeps mutexes-lawful whole m l some

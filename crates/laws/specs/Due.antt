@@ -6,9 +6,9 @@ use Prim.Native.Nat.{ℕ, _<_}
 use native.Mathlib.Omega.{arith}
 use lib.Dec.{eqb}
 use borrow.Author.Tests.{eqb-false}
-use Rattle.rules.specs.Sizes.{taskCount, ticksRound, waitsSemaphore, waitsMutex}
-use Rattle.rules.specs.Table.{Table, taskOf, noMutex, withState, withMark, withMutex}
-use Rattle.rules.specs.Move.{rotate, walk, holderOf, ended}
+use Rattle.rules.specs.Sizes.{taskCount, ticksRound}
+use Rattle.rules.specs.Table.{Table, taskOf, withState, withMark}
+use Rattle.rules.specs.Move.{rotate, walk, ended}
 use Rattle.rules.specs.Sound.{Each}
 use Rattle.rules.specs.Task.{create, delete, changePriority, suspend, resume}
 use Rattle.rules.specs.Time.{callerOf, markIn, delay}
@@ -16,7 +16,6 @@ use Rattle.rules.specs.Object.{limited, blocked, taken}
 use Rattle.rules.specs.Mutex.{released}
 use Rattle.rules.specs.declared.Task.{Task}
 use Rattle.laws.specs.Settled.{NotDue, Settled, sized}
-use Rattle.laws.specs.Fields.{walk-rest, walk-each}
 use Rattle.laws.specs.Becomes.{Becomes, becomes-each, then-walk, create-becomes, delete-becomes, changePriority-becomes, suspend-becomes, resume-becomes, rotate-becomes, ended-becomes, caller, delay-becomes, blocked-becomes, taken-becomes, released-each, released-frame}
 
 -- No mark of the task equals the counter.
@@ -68,18 +67,11 @@ module _ {t : Table} (s : Settled t) (notDue : NotDue t) where
         go true e = omega arith
         go false e = λ q. ahead limit t (s .tick) (omega (arith, eqb-false limit 0 e)) m
 
-    pub semaphoreBlocked-due : (o limit : ℕ) → limit < ticksRound → NotDue (blocked waitsSemaphore o limit t)
-    semaphoreBlocked-due o limit m = due-become (blocked-becomes l (sized s) waitsSemaphore o limit) (limited-off waitsSemaphore o limit m) notDue
-
-    pub mutexBlocked-due : (m limit : ℕ) → limit < ticksRound → NotDue (walk (holderOf t m) (blocked waitsMutex m limit t))
-    mutexBlocked-due m limit n = due-become (then-walk _ (blocked-becomes l (sized s) waitsMutex m limit)) (limited-off waitsMutex m limit n) notDue
+    pub blocked-due : (state object limit w : ℕ) → limit < ticksRound → NotDue (walk w (blocked state object limit t))
+    blocked-due state object limit w m = due-become (then-walk w (blocked-becomes l (sized s) state object limit)) (limited-off state object limit m) notDue
 
     pub taken-due : NotDue (taken t)
     taken-due = due-become (taken-becomes l (sized s)) (notDue _ l) notDue
-
-  pub mutexGone-due : (m : ℕ) → NotDue (walk (holderOf t m) (withMutex m noMutex t))
-  mutexGone-due m j l =
-      rw (ap (λ (x : Table). x .tick) (walk-rest (holderOf t m) (withMutex m noMutex t))) (walk-each (Off (t .tick)) (λ k p n r. r) _ _ notDue j l)
 
   pub released-due : (m : ℕ) → NotDue (released m t)
   released-due m j =

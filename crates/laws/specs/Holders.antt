@@ -6,50 +6,26 @@ use Prim.Native.Nat.{ℕ, _-_, _≤_, _<_}
 use native.Mathlib.Omega.{arith}
 use lib.ListN.{length, length-set}
 use lib.Seq.{getD-set-same}
-use Rattle.rules.specs.Sizes.{taskCount, mutexCount, mostNested, given}
+use Rattle.rules.specs.Sizes.{taskCount, mutexCount, given}
 use Rattle.rules.specs.Chain.{fresh}
 use Rattle.rules.specs.Table.{Table, taskOf, mutexOf, queueOf, ableQueue, placeOf, mutexQueue, firstIn, isAble, written, noMutex, heldBy, withMutex, withWork}
 use Rattle.rules.specs.Move.{put, holderOf, next, baseOf, freshIn, putWork, walk, ready}
 use Rattle.rules.specs.Time.{callerOf}
 use Rattle.rules.specs.Mutex.{released}
-use Rattle.rules.specs.Sound.{Empty}
 use Rattle.rules.specs.declared.Task.{Task}
 use Rattle.rules.specs.declared.Mutex.{Mutex}
 use Rattle.laws.specs.Settled.{Settled, WorkedOut, sized}
 use Rattle.laws.specs.Walk.{walkOn-turn, walkOn-past}
 use Rattle.laws.specs.Change.{edges-removed, Handed, handed-free}
 use Rattle.laws.specs.Put.{Stored, put-stored, put-other}
-use Rattle.laws.specs.Stands.{able, able-stands, mutex-place, mutex-there, semaphore-range, first-range, first-there, first-least, mutex-unwaited}
+use Rattle.laws.specs.Stands.{able, able-stands, mutex-place, mutex-there, semaphore-range, first-range, first-there, first-least}
 use Rattle.laws.specs.Becomes.{freed, given-to, released-one}
-use Rattle.laws.specs.Graph.{waits-none, ends-sized, alike-worked, stored-size, stored-other, stored-field, stored-next, stored-next-other, stored-bases, stored-works, Waits, waits-or, waits-next, waits-task, no-holder, written-holder, mutex-other, unwaited-alike, held-alike, computed-worked, worked-computed, walked}
+use Rattle.laws.specs.Graph.{waits-none, ends-sized, stored-size, stored-other, stored-field, stored-next, stored-next-other, stored-bases, stored-works, Waits, waits-or, waits-next, waits-task, no-holder, written-holder, mutex-other, computed-worked, worked-computed}
 use Rattle.laws.specs.Priorities.{able-next, changed-worked}
 
 -- A waiter of m stands in the queue of m.
 stands-for : (t : Table) (m j : ℕ) → Waits t m j → placeOf (taskOf t j) ≡ mutexQueue m
 stands-for t m j w = mutex-place (taskOf t j) (w .0) ∙ ap mutexQueue (w .1)
-
--- Nobody waits for a mutex whose queue is empty.
-empty-unwaited : {t : Table} → Settled t → (m : ℕ) → m < mutexCount → Empty (mutexQueue m) t → (j : ℕ) → ¬ Waits t m j
-empty-unwaited {t} h m l e j w = mutex-unwaited (h .queued) m l e j (waits-task t m j (sized h) w) (w .0) (w .1)
-
-module _ {t : Table} (h : Settled t) where
-  pub mutexCreated-worked : (m : ℕ) → m < mutexCount → mutexOf t m .used ≡ 0 → WorkedOut (withMutex m (heldBy 0 0) t)
-  mutexCreated-worked m l free = alike-worked (held-alike m (heldBy 0 0) t (rw (h .objects .freeNumbers m l free .0))) (h .worked)
-
-  pub mutexTaken-worked : (m i : ℕ) → m < mutexCount → mutexOf t m .used ≡ 1 → mutexOf t m .holder ≡ 0 → i < taskCount → isAble (taskOf t i) ≡ true
-      → WorkedOut (withMutex m (heldBy (written i) 1) t)
-  mutexTaken-worked m i l u free k a =
-      alike-worked (unwaited-alike m (heldBy (written i) 1) t (empty-unwaited h m l (h .objects .freeMutexes m l free .1))) (h .worked)
-
-  pub mutexNested-worked : (m n : ℕ) → m < mutexCount → mutexOf t m .used ≡ 1 → mutexOf t m .holder ≢ 0 → 1 ≤ n → n ≤ mostNested
-      → WorkedOut (withMutex m (heldBy (mutexOf t m .holder) n) t)
-  mutexNested-worked m n l u held some most = alike-worked (held-alike m (heldBy (mutexOf t m .holder) n) t refl) (h .worked)
-
-  pub mutexGone-worked : (m : ℕ) → m < mutexCount → Empty (mutexQueue m) t → WorkedOut (walk (holderOf t m) (withMutex m noMutex t))
-  mutexGone-worked m l e =
-      let u = withMutex m noMutex t in
-      walked (holderOf t m) u (sized h)
-      (λ j k apart. worked-computed u (sized h) (alike-worked (unwaited-alike m noMutex t (empty-unwaited h m l e)) (h .worked)) j k)
 
 -- ---- a free mutex is handed to the first of its waiters
 

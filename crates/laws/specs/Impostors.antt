@@ -30,8 +30,8 @@ use Rattle.rules.specs.Table.{isAble, placeOf, works}
 use Rattle.rules.specs.Move.{leave, join, stays, put, holderOf, freshIn, chosen}
 use Rattle.rules.specs.Task.{createAnswer, create}
 use Rattle.rules.specs.Lock.{lockAnswer, unlockAnswer}
-use Rattle.rules.specs.Object.{blocked, taken}
-use Rattle.rules.specs.Mutex.{mutexCreateAnswer, mutexCreate, mutexWaitAnswer, mutexWait}
+use Rattle.rules.specs.Object.{objectCreateAnswer, blocked, waits, taken}
+use Rattle.rules.specs.Mutex.{mutexCreate, mutexWaitAnswer, mutexWait}
 use Rattle.rules.specs.Step.{answerTo, changeBy, forInterrupts, answer, effect, serve}
 use Rattle.laws.specs.Sounds.{step-serve, step-sound, fresh-sound}
 use Rattle.laws.specs.Counted.{lock-depth, unlock-depth, wait-nesting, post-nesting, wait-count, post-count}
@@ -122,7 +122,7 @@ record Raising : Type 0 where
   next : taskOf (serve (MutexWait 0 1 0) false raised .table) 3 .work ≡ 5
 
 raising : Raising
-unfolding firstAt later push pull opened closed leads smallest fresh walkOn freshTable isAble placeOf works leave join stays put holderOf next freshIn chosen createAnswer create blocked taken mutexCreateAnswer mutexCreate mutexWaitAnswer mutexWait answerTo changeBy forInterrupts answer effect serve count mayPrecede fits isOrdered each isShaped objectsIn marksIn isTaskInRange isInRange isNoTask isNoSemaphore isNoMutex isFreeZero isQueued isWaited isWorked isHeldRight isTimed runsRight isSound after
+unfolding firstAt later push pull opened closed leads smallest fresh walkOn freshTable isAble placeOf works leave join stays put holderOf next freshIn chosen createAnswer create objectCreateAnswer blocked waits taken mutexCreate mutexWaitAnswer mutexWait answerTo changeBy forInterrupts answer effect serve count mayPrecede fits isOrdered each isShaped objectsIn marksIn isTaskInRange isInRange isNoTask isNoSemaphore isNoMutex isFreeZero isQueued isWaited isWorked isHeldRight isTimed runsRight isSound after
 raising = record { sound = refl; before = refl; base = refl; next = refl }
 
 -- Nothing that does what the rules say is one of the five.

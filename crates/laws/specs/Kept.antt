@@ -3,24 +3,26 @@ use mathlib.Core.Path.{_≡_, refl, ap}
 use mathlib.Core.Logic.{_⊎_, inl, inr, _≢_}
 use mathlib.Core.Bool.{true, false}
 use Prim.Native.Nat.{ℕ, _≤_, _<_}
-use Rattle.rules.specs.Sizes.{taskCount, semaphoreCount, mutexCount, lastPriority, mostNested, mostQuantum, mostCount, ticksRound, plain, waitsSemaphore, waitsMutex, objectDeleted}
-use Rattle.rules.specs.Table.{Table, taskOf, semaphoreOf, mutexOf, semaphoreQueue, mutexQueue, isAble, written, noSemaphore, noMutex, counting, heldBy, withSemaphore, withMutex}
+use native.Mathlib.Omega.{arith}
+use Rattle.rules.specs.Sizes.{taskCount, mutexCount, lastPriority, mostNested, mostQuantum, ticksRound, plain, delayed, waitsMutex, objectDeleted}
+use Rattle.rules.specs.Table.{Table, taskOf, mutexOf, isAble, written, heldBy}
 use Rattle.rules.specs.Move.{rotate, walk, holderOf, ended}
-use Rattle.rules.specs.Sound.{Empty}
+use Rattle.rules.specs.Sound.{objectsIn}
 use Rattle.rules.specs.Task.{holdsBelow, create, delete, changePriority, suspend, resume}
 use Rattle.rules.specs.Time.{callerOf, delay}
 use Rattle.rules.specs.Object.{blocked, taken}
 use Rattle.rules.specs.Mutex.{released}
 use Rattle.rules.specs.Tick.{turned}
 use Rattle.laws.specs.Settled.{Settled, sized}
-use Rattle.laws.specs.Queues.{same-queued, semaphore-queued, mutex-queued, walk-queued, create-queued, delete-queued, changePriority-queued, suspend-queued, resume-queued, rotate-queued, delay-queued, ended-queued, blocked-queued, taken-queued, released-queued, turned-queued}
-use Rattle.laws.specs.Priorities.{untouched-worked, create-worked, delete-worked, changePriority-worked, suspend-worked, resume-worked, rotate-worked, delay-worked, ended-worked, semaphoreBlocked-worked, mutexBlocked-worked, taken-worked, turned-worked}
-use Rattle.laws.specs.Holders.{mutexCreated-worked, mutexTaken-worked, mutexNested-worked, mutexGone-worked, released-worked}
-use Rattle.laws.specs.Fields.{frame, framed, walk-rest}
+use Rattle.laws.specs.Queues.{same-queued, mutex-queued, walk-queued, create-queued, delete-queued, changePriority-queued, suspend-queued, resume-queued, rotate-queued, delay-queued, ended-queued, blocked-queued, taken-queued, released-queued, turned-queued}
+use Rattle.laws.specs.Priorities.{untouched-worked, create-worked, delete-worked, changePriority-worked, suspend-worked, resume-worked, rotate-worked, delay-worked, ended-worked, blocked-worked, taken-worked, turned-worked}
+use Rattle.laws.specs.Holders.{released-worked}
+use Rattle.laws.specs.Fields.{frame, framed}
 use Rattle.laws.specs.Becomes.{framed-settled, create-becomes, delete-becomes, changePriority-becomes, suspend-becomes, resume-becomes, rotate-becomes, ended-becomes, delay-becomes, blocked-becomes, taken-becomes, turned-becomes, then-walk, released-frame, caller}
-use Rattle.laws.specs.Records.{create-tasks, delete-tasks, changePriority-tasks, suspend-tasks, resume-tasks, rotate-tasks, ended-tasks, delay-tasks, semaphoreBlocked-tasks, mutexBlocked-tasks, taken-tasks, turned-tasks, mutexGone-tasks, released-tasks, create-delays, delete-delays, changePriority-delays, suspend-delays, resume-delays, rotate-delays, ended-delays, delay-delays, semaphoreBlocked-delays, mutexBlocked-delays, taken-delays, turned-delays, mutexGone-delays, released-delays}
-use Rattle.laws.specs.Objects.{framed-objects, create-objects, delete-objects, changePriority-objects, suspend-objects, resume-objects, rotate-objects, ended-objects, delay-objects, semaphoreBlocked-objects, mutexBlocked-objects, taken-objects, turned-objects, counting-objects, semaphoreGone-objects, mutexCreated-objects, mutexTaken-objects, mutexNested-objects, mutexGone-objects, released-objects}
+use Rattle.laws.specs.Records.{walk-tasks, create-tasks, delete-tasks, changePriority-tasks, suspend-tasks, resume-tasks, rotate-tasks, ended-tasks, delay-tasks, blocked-tasks, taken-tasks, turned-tasks, released-tasks, create-delays, delete-delays, changePriority-delays, suspend-delays, resume-delays, rotate-delays, ended-delays, delay-delays, blocked-delays, taken-delays, turned-delays, released-delays}
+use Rattle.laws.specs.Objects.{framed-objects, create-objects, delete-objects, changePriority-objects, suspend-objects, resume-objects, rotate-objects, ended-objects, delay-objects, blocked-objects, taken-objects, turned-objects, released-objects}
 use Rattle.laws.specs.Stands.{able}
+use Rattle.laws.specs.Linked.{WaitRight}
 
 module _ {t : Table} (s : Settled t) where
   -- ---- tick, depth and running task alone
@@ -134,27 +136,17 @@ module _ {t : Table} (s : Settled t) where
         (taken-delays s l)
         (taken-objects s l a)
 
-    pub semaphoreBlocked-settled : (o limit : ℕ) → o < semaphoreCount → semaphoreOf t o .used ≡ 1 → semaphoreOf t o .count ≡ 0 → limit < ticksRound
-        → Settled (blocked waitsSemaphore o limit t)
-    semaphoreBlocked-settled o limit m u z most =
+    pub blocked-settled : (state object limit w : ℕ) → state ≤ waitsMutex → delayed < state → object < objectsIn state → WaitRight t (callerOf t) state object
+        → (state ≡ waitsMutex → w ≡ holderOf t object)
+        → Settled (walk w (blocked state object limit t))
+    blocked-settled state object limit w most some range may from =
         framed-settled s
-        (ap frame (blocked-becomes l (sized s) waitsSemaphore o limit .rests))
-        (blocked-queued waitsSemaphore o limit (s .queued))
-        (semaphoreBlocked-worked s o limit m u z l a most)
-        (semaphoreBlocked-tasks s l a o limit m)
-        (semaphoreBlocked-delays s l o limit)
-        (semaphoreBlocked-objects s l a o limit u z)
-
-    pub mutexBlocked-settled : (m limit : ℕ) → m < mutexCount → mutexOf t m .used ≡ 1 → mutexOf t m .holder ≢ 0 → mutexOf t m .holder ≢ written (callerOf t) → limit < ticksRound
-        → Settled (walk (holderOf t m) (blocked waitsMutex m limit t))
-    mutexBlocked-settled m limit n u h d most =
-        framed-settled s
-        (ap frame (then-walk (holderOf t m) (blocked-becomes l (sized s) waitsMutex m limit) .rests))
-        (walk-queued (holderOf t m) (blocked-queued waitsMutex m limit (s .queued)))
-        (mutexBlocked-worked s m limit n u h d l a most)
-        (mutexBlocked-tasks s l a m limit n)
-        (mutexBlocked-delays s l m limit)
-        (mutexBlocked-objects s l a m limit u h d)
+        (ap frame (then-walk w (blocked-becomes l (sized s) state object limit) .rests))
+        (walk-queued w (blocked-queued state object limit (s .queued)))
+        (blocked-worked s state object limit w from l a)
+        (walk-tasks w _ (blocked-tasks s l a state object limit most (λ e. omega arith) range))
+        (blocked-delays s l state object limit w (λ e. omega arith))
+        (blocked-objects s l a state object limit w may)
 
     pub released-settled : (m : ℕ) → m < mutexCount → mutexOf t m .used ≡ 1 → mutexOf t m .holder ≡ written (callerOf t) → Settled (released m t)
     released-settled m n u own =
@@ -179,41 +171,3 @@ module _ {t : Table} (s : Settled t) where
       both : (t .running ≡ 0) ⊎ (isAble (caller t) ≡ true) → (t .running ≡ 0) ⊎ ((callerOf t < taskCount) × (isAble (caller t) ≡ true))
       both (inl e) = inl e
       both (inr a) = inr (l, a)
-
-  -- ---- semaphores
-
-  module _ (o : ℕ) (l : o < semaphoreCount) where
-    pub counting-settled : (n : ℕ) → n ≤ mostCount → Empty (semaphoreQueue o) t ⊎ ((n ≡ semaphoreOf t o .count) × (semaphoreOf t o .used ≡ 1))
-        → Settled (withSemaphore o (counting n) t)
-    counting-settled n m c =
-        framed-settled s refl (semaphore-queued o (counting n) (s .queued)) (untouched-worked s (withSemaphore o (counting n) t) refl refl) (s .tasks) (s .delays) (counting-objects s o n l m c)
-
-    pub semaphoreGone-settled : Empty (semaphoreQueue o) t → Settled (withSemaphore o noSemaphore t)
-    semaphoreGone-settled z =
-        framed-settled s refl (semaphore-queued o noSemaphore (s .queued)) (untouched-worked s (withSemaphore o noSemaphore t) refl refl) (s .tasks) (s .delays) (semaphoreGone-objects s o l z)
-
-  -- ---- mutexes
-
-  module _ (m : ℕ) (l : m < mutexCount) where
-    pub mutexCreated-settled : mutexOf t m .used ≡ 0 → Settled (withMutex m (heldBy 0 0) t)
-    mutexCreated-settled free =
-        framed-settled s refl (mutex-queued m (heldBy 0 0) (s .queued)) (mutexCreated-worked s m l free) (s .tasks) (s .delays) (mutexCreated-objects s m l free)
-
-    module _ (u : mutexOf t m .used ≡ 1) where
-      pub mutexTaken-settled : mutexOf t m .holder ≡ 0 → (i : ℕ) → i < taskCount → isAble (taskOf t i) ≡ true → Settled (withMutex m (heldBy (written i) 1) t)
-      mutexTaken-settled free i n a =
-          framed-settled s refl (mutex-queued m (heldBy (written i) 1) (s .queued)) (mutexTaken-worked s m i l u free n a) (s .tasks) (s .delays) (mutexTaken-objects s m l free i n a)
-
-      pub mutexNested-settled : mutexOf t m .holder ≢ 0 → (n : ℕ) → 1 ≤ n → n ≤ mostNested → Settled (withMutex m (heldBy (mutexOf t m .holder) n) t)
-      mutexNested-settled held n some most =
-          framed-settled s refl (mutex-queued m (heldBy (mutexOf t m .holder) n) (s .queued)) (mutexNested-worked s m n l u held some most) (s .tasks) (s .delays) (mutexNested-objects s m l held n some most)
-
-    pub mutexGone-settled : Empty (mutexQueue m) t → Settled (walk (holderOf t m) (withMutex m noMutex t))
-    mutexGone-settled z =
-        framed-settled s
-        (ap frame (walk-rest (holderOf t m) (withMutex m noMutex t)))
-        (walk-queued (holderOf t m) (mutex-queued m noMutex (s .queued)))
-        (mutexGone-worked s m l z)
-        (mutexGone-tasks s m)
-        (mutexGone-delays s m)
-        (mutexGone-objects s m l z)

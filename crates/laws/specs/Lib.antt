@@ -20,6 +20,7 @@ pub mod Running
 pub mod Kept
 pub mod Ending
 pub mod Accepted
+pub mod Families
 pub mod Calls
 pub mod Sounds
 pub mod Always

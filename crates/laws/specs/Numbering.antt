@@ -10,16 +10,17 @@ use lib.Dec.{eqb, leb}
 use lib.ListN.{length, getD}
 use borrow.Author.Tests.{eqb-true, leb-true}
 use Rattle.queue.specs.Slots.{firstAt, same}
-use Rattle.rules.specs.Sizes.{taskCount, semaphoreCount, mutexCount, done, beyondRange, notInUse, inUse, badValue, byInterrupt, noneRunning, whileLocked, nothingToTake, notSound}
+use Rattle.rules.specs.Sizes.{taskCount, done, beyondRange, notInUse, inUse, badValue, byInterrupt, noneRunning, whileLocked, nothingToTake, notSound}
 use Rattle.rules.specs.Table.{Table, taskOf, semaphoreOf, mutexOf, isUsed}
 use Rattle.rules.specs.Decides.{Decides, equals, at-most, fails, both, each-one}
 use Rattle.rules.specs.Tested.{sound}
 use Rattle.rules.specs.Task.{onTask, createAnswer, deleteAnswer, priorityAnswer, suspendAnswer, resumeAnswer}
 use Rattle.rules.specs.Time.{callerOf, byCaller, yieldAnswer, delayAnswer, delayResumeAnswer}
 use Rattle.rules.specs.Lock.{lockAnswer, unlockAnswer}
-use Rattle.rules.specs.Object.{onObject, yesNo, waitAnswer}
-use Rattle.rules.specs.Semaphore.{onSemaphore, semaphoreCreateAnswer, semaphoreDeleteAnswer, semaphoreWaitAnswer, semaphorePostAnswer, semaphoreAbortAnswer}
-use Rattle.rules.specs.Mutex.{onMutex, mutexCreateAnswer, mutexDeleteAnswer, mutexWaitAnswer, mutexPostAnswer, mutexAbortAnswer}
+use Rattle.rules.specs.Family.{Family}
+use Rattle.rules.specs.Object.{onObject, yesNo, waitAnswer, onOne, objectCreateAnswer, objectDeleteAnswer, objectAbortAnswer}
+use Rattle.rules.specs.Semaphore.{semaphores, semaphoreWaitAnswer, semaphorePostAnswer}
+use Rattle.rules.specs.Mutex.{mutexes, mutexWaitAnswer, mutexPostAnswer}
 use Rattle.rules.specs.Sound.{Each, each, isSound}
 use Rattle.rules.specs.Step.{answerTo, forInterrupts, answer, serve, step}
 use Rattle.rules.specs.declared.Call.{Call}
@@ -77,11 +78,8 @@ module _ {n : ℕ} where
     on-task : (t : Table) (i : ℕ) {x : ℕ} → Soon n x → Soon n (onTask i t x)
     on-task t i = on-object taskCount i (taskOf t i .used)
 
-    on-semaphore : (t : Table) (s : ℕ) {x : ℕ} → Soon n x → Soon n (onSemaphore s t x)
-    on-semaphore t s = on-object semaphoreCount s (semaphoreOf t s .used)
-
-    on-mutex : (t : Table) (m : ℕ) {x : ℕ} → Soon n x → Soon n (onMutex m t x)
-    on-mutex t m = on-object mutexCount m (mutexOf t m .used)
+    on-one : (f : Family) (t : Table) (o : ℕ) {x : ℕ} → Soon n x → Soon n (onOne f o t x)
+    on-one f t o = on-object (f .count) o (f .used t o)
 
     yes-no : (byte : ℕ) {x : ℕ} → Soon n x → Soon n (yesNo byte x)
     yes-no byte s = past (at-most {x = 2} {y = byte}) (within badValue late) s
@@ -128,7 +126,7 @@ unlisted n l = found n paperOrder (omega (arith, most))
 module _ (t : Table) where
   -- A call on a thing tests the thing first, or after the caller.
   on-start : {c : Call} {x : Thing} → On c x → (P : ℕ → Type 0) → P noneRunning → ((n : ℕ) → P (onObject (countOf x) (numberOf x) (usedIn t x) n)) → P (answerTo c t)
-  unfolding countOf numberOf usedIn answerTo deleteAnswer priorityAnswer suspendAnswer resumeAnswer delayResumeAnswer semaphoreDeleteAnswer semaphoreWaitAnswer semaphorePostAnswer semaphoreAbortAnswer mutexDeleteAnswer mutexWaitAnswer mutexPostAnswer mutexAbortAnswer
+  unfolding countOf numberOf usedIn answerTo deleteAnswer priorityAnswer suspendAnswer resumeAnswer delayResumeAnswer objectDeleteAnswer objectAbortAnswer semaphoreWaitAnswer semaphorePostAnswer mutexWaitAnswer mutexPostAnswer
   on-start taskDelete P none on = on _
   on-start changePriority P none on = on _
   on-start suspend P none on = on _
@@ -144,7 +142,7 @@ module _ (t : Table) where
   on-start mutexAbort P none on = on _
 
   new-start : {c : Call} {x : Thing} → Creates c x → (P : ℕ → Type 0) → ((n : ℕ) → P (cond (leb (countOf x) (numberOf x)) beyondRange (cond (isUsed (usedIn t x)) inUse n))) → P (answerTo c t)
-  unfolding countOf numberOf usedIn answerTo createAnswer semaphoreCreateAnswer mutexCreateAnswer
+  unfolding countOf numberOf usedIn answerTo createAnswer objectCreateAnswer
   new-start aTask P on = on _
   new-start aSemaphore P on = on _
   new-start aMutex P on = on _
@@ -152,8 +150,8 @@ module _ (t : Table) where
   nothing-start : {n block : ℕ} {c : Call} → leb (rank badValue) (rank n) ≡ true → FindsNothing t block c → Soon n (waitAnswer block t) → Soon n (answerTo c t)
   unfolding answerTo semaphoreWaitAnswer mutexWaitAnswer
   nothing-start l (counted {s} {block} z) r =
-      by-caller l t (on-semaphore l t s (yes-no l block (miss done at-most (λ (h : 1 ≤ semaphoreOf t s .count). omega arith) r)))
-  nothing-start l (held {m} {block} d e) r = by-caller l t (on-mutex l t m (yes-no l block (miss done (twice equals) d (miss _ equals e r))))
+      by-caller l t (on-one l semaphores t s (yes-no l block (miss done at-most (λ (h : 1 ≤ semaphoreOf t s .count). omega arith) r)))
+  nothing-start l (held {m} {block} d e) r = by-caller l t (on-one l mutexes t m (yes-no l block (miss done (twice equals) d (miss _ equals e r))))
 
   module _ {interrupt : Bool} where
     -- A refusal of the call itself comes after 15 and 5.
@@ -162,7 +160,7 @@ module _ (t : Table) where
     own {c = c} l s = no-later c (past (sound t) (past (interrupted interrupt c) (sooner noneRunning byInterrupt l refl) s) (sooner noneRunning notSound l refl))
 
     rows : {n : ℕ} {c : Call} → Gets interrupt t n c → NoLater interrupt t n c
-    unfolding rank paperOrder firstAt answerTo createAnswer deleteAnswer priorityAnswer suspendAnswer resumeAnswer yieldAnswer delayAnswer delayResumeAnswer lockAnswer unlockAnswer semaphoreDeleteAnswer semaphoreWaitAnswer semaphorePostAnswer semaphoreAbortAnswer mutexDeleteAnswer mutexWaitAnswer mutexPostAnswer mutexAbortAnswer
+    unfolding rank paperOrder firstAt answerTo createAnswer deleteAnswer priorityAnswer suspendAnswer resumeAnswer yieldAnswer delayAnswer delayResumeAnswer lockAnswer unlockAnswer objectDeleteAnswer objectAbortAnswer semaphoreWaitAnswer semaphorePostAnswer mutexWaitAnswer mutexPostAnswer
     rows {c = c} (unsound s) = no-later c (miss _ (sound t) s itself-soon)
     rows {c = c} (interrupts e f) = no-later c (past (sound t) (hit _ (interrupted interrupt c) (e, f)) (within notSound refl))
     rows (yieldByNone z) = own refl (hit _ equals z)
@@ -177,10 +175,10 @@ module _ (t : Table) where
     rows (used {x = x} o e) = own refl (new-start o (Soon inUse) (λ n. past (at-most {x = countOf x} {y = numberOf x}) (within beyondRange refl) (hit n equals e)))
     rows (createBase {i} {base} {quantum} h) = own refl (on-new refl taskCount i (taskOf t i .used) (hit _ (great base quantum) (inl h)))
     rows (changeBase {i} h) = own refl (on-task refl t i (hit _ at-most h))
-    rows (semaphoreForce {s} h) = own refl (on-semaphore refl t s (hit _ at-most h))
-    rows (mutexForce {m} h) = own refl (on-mutex refl t m (hit _ at-most h))
-    rows (semaphoreBlock {s} h) = own refl (by-caller refl t (on-semaphore refl t s (hit _ at-most h)))
-    rows (mutexBlock {m} h) = own refl (by-caller refl t (on-mutex refl t m (hit _ at-most h)))
+    rows (semaphoreForce {s} h) = own refl (on-one refl semaphores t s (hit _ at-most h))
+    rows (mutexForce {m} h) = own refl (on-one refl mutexes t m (hit _ at-most h))
+    rows (semaphoreBlock {s} h) = own refl (by-caller refl t (on-one refl semaphores t s (hit _ at-most h)))
+    rows (mutexBlock {m} h) = own refl (by-caller refl t (on-one refl mutexes t m (hit _ at-most h)))
     rows (noTicks z) = own refl (by-caller refl t (hit _ equals z))
     rows (createQuantum {i} {base} {quantum} h) = own refl (on-new refl taskCount i (taskOf t i .used) (hit _ (great base quantum) (inr h)))
     rows (nonBlocking f z) = own refl (nothing-start refl f (hit _ equals z))
@@ -189,25 +187,25 @@ module _ (t : Table) where
     rows (lockedWait {block} d f) = own refl (nothing-start refl f (past (equals {x = block} {y = 0}) (within nothingToTake refl) (hit _ (locked t) d)))
     rows (lockedSuspend {i} d e) = own refl (on-task refl t i (hit _ (kept-on i t) (d, e)))
     rows (lockedDelete {i} d e) = own refl (on-task refl t i (hit _ (kept-on i t) (d, e)))
-    rows (foreign {m} d) = own refl (by-caller refl t (on-mutex refl t m (hit _ (fails equals) d)))
+    rows (foreign {m} d) = own refl (by-caller refl t (on-one refl mutexes t m (hit _ (fails equals) d)))
     rows (nestedMutex {m} {block} e h) =
         own refl
         (by-caller refl t
-        (on-mutex refl t m
+        (on-one refl mutexes t m
         (yes-no refl block
         (miss done (twice equals) (λ (z : mutexOf t m .holder ≡ 0). omega arith)
         (meets _ equals e (hit _ at-most h))))))
     rows (nestedLock h) = own refl (hit _ at-most h)
     rows (nestedSuspend {i} h) = own refl (on-task refl t i (past (kept-on i t) (within whileLocked refl) (hit _ at-most h)))
-    rows (full {s} h) = own refl (on-semaphore refl t s (hit _ at-most h))
+    rows (full {s} h) = own refl (on-one refl semaphores t s (hit _ at-most h))
     rows (unlocked z) = own refl (hit _ equals z)
     rows (notSuspended {i} z) = own refl (on-task refl t i (hit _ equals z))
     rows (notDelayed {i} d) = own refl (on-task refl t i (hit _ (fails equals) d))
-    rows (noSemaphoreWaiter {s} z) = own refl (on-semaphore refl t s (hit _ (twice equals) z))
-    rows (noMutexWaiter {m} z) = own refl (on-mutex refl t m (hit _ (twice equals) z))
+    rows (noSemaphoreWaiter {s} z) = own refl (on-one refl semaphores t s (hit _ (twice equals) z))
+    rows (noMutexWaiter {m} z) = own refl (on-one refl mutexes t m (hit _ (twice equals) z))
     rows (noPeer n) = own refl (by-caller refl t (past (locked t) (within whileLocked refl) (hit _ (fails (peer (callerOf t) t)) n)))
-    rows (semaphoreWaiters {s} {force} z d) = own refl (on-semaphore refl t s (yes-no refl force (hit _ (both equals (fails equals)) (z, d))))
-    rows (mutexWaiters {m} {force} z d) = own refl (on-mutex refl t m (yes-no refl force (hit _ (both equals (fails equals)) (z, d))))
+    rows (semaphoreWaiters {s} {force} z d) = own refl (on-one refl semaphores t s (yes-no refl force (hit _ (both equals (fails equals)) (z, d))))
+    rows (mutexWaiters {m} {force} z d) = own refl (on-one refl mutexes t m (yes-no refl force (hit _ (both equals (fails equals)) (z, d))))
     rows (holder {i} h) = own refl (on-task refl t i (past (kept-on i t) (within whileLocked refl) (hit _ (holding i t) h)))
     rows (waits {block} f) = own refl (nothing-start refl f (past (equals {x = block} {y = 0}) (within nothingToTake refl) (past (locked t) (within whileLocked refl) itself-soon)))
     rows {c = c} accepted = own refl (record { soon = listed (answerTo c t) (omega (arith, answers interrupt t c .small)) })

@@ -1,6 +1,6 @@
 -- Each call leaves the objects right: ObjectsRight. What a call does to the queues is taken from `Queued` of the table after it.
-use mathlib.Core.Path.{_≡_, refl, sym, ap, subst, _∙_}
-use mathlib.Core.Logic.{_⊎_, inl, inr, _≢_}
+use mathlib.Core.Path.{_≡_, refl, sym, ap, _∙_}
+use mathlib.Core.Logic.{_≢_}
 use mathlib.Core.Bool.{true, false}
 use Prim.Native.Nat.{ℕ, _-_, _≤_, _<_}
 use native.Mathlib.Decide.{ℕ-discrete}
@@ -8,10 +8,9 @@ use native.Mathlib.Omega.{arith}
 use lib.Dec.{eqb}
 use lib.ListN.{length}
 use lib.Seq.{set-set}
-use Rattle.rules.specs.Sizes.{taskCount, semaphoreCount, mutexCount, mostNested, mostCount, waitsSemaphore, waitsMutex, given}
-use Rattle.rules.specs.Table.{Table, taskOf, semaphoreOf, mutexOf, semaphoreQueue, mutexQueue, firstIn, written, isAble, placeOf, noSemaphore, noMutex, counting, heldBy, withSemaphore, withMutex}
-use Rattle.rules.specs.Move.{put, ready, rotate, walk, holderOf, ended}
-use Rattle.rules.specs.Sound.{Empty}
+use Rattle.rules.specs.Sizes.{taskCount, mutexCount, mostNested, waitsSemaphore, waitsMutex, given}
+use Rattle.rules.specs.Table.{Table, taskOf, mutexQueue, firstIn, isAble, placeOf, heldBy, withMutex}
+use Rattle.rules.specs.Move.{put, ready, rotate, walk, ended}
 use Rattle.rules.specs.Task.{holdsBelow, create, delete, changePriority, suspend, resume}
 use Rattle.rules.specs.Time.{callerOf, delay}
 use Rattle.rules.specs.Object.{limited, blocked, taken}
@@ -23,9 +22,9 @@ use Rattle.laws.specs.Settled.{Queued, ObjectsRight, Settled, sized}
 use Rattle.laws.specs.Fields.{rest, framed, bare, bare-place, walk-rest, walk-size, walk-bare, put-rest, put-size}
 use Rattle.laws.specs.Put.{either}
 use Rattle.laws.specs.Becomes.{Becomes, put-becomes, then-walk, create-becomes, delete-becomes, changePriority-becomes, suspend-becomes, resume-becomes, rotate-becomes, ended-becomes, caller, caller-used, delay-becomes, blocked-becomes, taken-becomes, turned-becomes, freed, released-one, given-to}
-use Rattle.laws.specs.Stands.{able, placed-used, first-range, first-there, semaphore-unwaited, mutex-unwaited}
+use Rattle.laws.specs.Stands.{placed-used, first-range, first-there, mutex-unwaited}
 use Rattle.laws.specs.Found.{holds-none}
-use Rattle.laws.specs.Linked.{MutexRight, Awaited, HeldApart, WaitRight, Linked, objects-linked, linked-objects, linked-become, holder-used, linked-same, linked-semaphore, linked-mutex}
+use Rattle.laws.specs.Linked.{MutexRight, HeldApart, WaitRight, Linked, objects-linked, linked-objects, linked-become, holder-used, linked-same, linked-mutex}
 
 -- A change of tick, depth and running task alone.
 pub framed-objects : {t : Table} (tick depth running : ℕ) → ObjectsRight t → ObjectsRight (framed tick depth running t)
@@ -47,10 +46,10 @@ framed-objects tick depth running o =
 -- ---- each call on a task
 
 -- A mutex without a holder, and one with.
-unheld : MutexRight (heldBy 0 0)
+pub unheld : MutexRight (heldBy 0 0)
 unheld = record { used = omega arith; holder = omega arith; nesting = omega arith; free = λ z. absurd (omega arith); unheld = λ e. refl; held = λ d. absurd (d refl) }
 
-held-right : (h n : ℕ) → h ≢ 0 → h ≤ taskCount → 1 ≤ n → n ≤ mostNested → MutexRight (heldBy h n)
+pub held-right : (h n : ℕ) → h ≢ 0 → h ≤ taskCount → 1 ≤ n → n ≤ mostNested → MutexRight (heldBy h n)
 held-right h n d l g k = record { used = omega arith; holder = l; nesting = k; free = λ z. absurd (omega arith); unheld = λ e. absurd (d e); held = λ e. g }
 
 -- ---- a mutex that goes to its first waiter
@@ -151,71 +150,16 @@ module _ {t : Table} (s : Settled t) where
     limited-used : (limit : ℕ) → limited limit t (caller t) .used ≡ 1
     limited-used limit = either (λ (k : Task). k .used ≡ 1) (eqb limit 0) (caller-used t a) (caller-used t a)
 
-    pub semaphoreBlocked-objects : (o limit : ℕ) → semaphoreOf t o .used ≡ 1 → semaphoreOf t o .count ≡ 0
-        → Queued (blocked waitsSemaphore o limit t) → ObjectsRight (blocked waitsSemaphore o limit t)
-    semaphoreBlocked-objects o limit u z =
-        becomes-right (blocked-becomes l (sized s) waitsSemaphore o limit) (record { semaphore = λ e. record { used = u; count = z }; mutex = λ e. absurd (omega arith) }) (limited-used limit)
-
-    pub mutexBlocked-objects : (m limit : ℕ) → mutexOf t m .used ≡ 1 → mutexOf t m .holder ≢ 0 → mutexOf t m .holder ≢ written (callerOf t)
-        → Queued (walk (holderOf t m) (blocked waitsMutex m limit t)) → ObjectsRight (walk (holderOf t m) (blocked waitsMutex m limit t))
-    mutexBlocked-objects m limit u h d =
-        becomes-right
-        (then-walk _ (blocked-becomes l (sized s) waitsMutex m limit))
-        (record { semaphore = λ e. absurd (omega arith); mutex = λ e. record { used = u; held = h; apart = d } })
-        (limited-used limit)
+    pub blocked-objects : (state object limit w : ℕ) → WaitRight t (callerOf t) state object
+        → Queued (walk w (blocked state object limit t)) → ObjectsRight (walk w (blocked state object limit t))
+    blocked-objects state object limit w may = becomes-right (then-walk w (blocked-becomes l (sized s) state object limit)) may (limited-used limit)
 
   pub turned-objects : callerOf t < taskCount → Queued (turned t) → ObjectsRight (turned t)
   turned-objects l q = linked-objects q (linked-become (turned-becomes l (sized s) .1) linked (linked .waits _ l) (holder-used linked _))
 
-  -- ---- semaphores
-
-  pub counting-objects : (o n : ℕ) → o < semaphoreCount → n ≤ mostCount
-      → Empty (semaphoreQueue o) t ⊎ ((n ≡ semaphoreOf t o .count) × (semaphoreOf t o .used ≡ 1))
-      → Queued (withSemaphore o (counting n) t) → ObjectsRight (withSemaphore o (counting n) t)
-  counting-objects o n l m c q =
-      linked-objects q (linked-semaphore o (counting n) linked (record { used = omega arith; count = m; free = λ z. absurd (omega arith) }) (λ j k e x. waited j k e x c))
-    where
-      waited : (j : ℕ) → j < taskCount → taskOf t j .state ≡ waitsSemaphore → taskOf t j .object ≡ o
-          → Empty (semaphoreQueue o) t ⊎ ((n ≡ semaphoreOf t o .count) × (semaphoreOf t o .used ≡ 1))
-          → Awaited (counting n)
-      waited j k e x (inl z) = absurd (semaphore-unwaited (s .queued) o l z j k e x)
-      waited j k e x (inr (w, u)) = record { used = refl; count = w ∙ subst (λ (i : ℕ). Awaited (semaphoreOf t i)) x (linked .waits j k .semaphore e) .count }
-
-  pub semaphoreGone-objects : (o : ℕ) → o < semaphoreCount → Empty (semaphoreQueue o) t
-      → Queued (withSemaphore o noSemaphore t) → ObjectsRight (withSemaphore o noSemaphore t)
-  semaphoreGone-objects o l z q =
-      linked-objects q (linked-semaphore o noSemaphore linked (record { used = omega arith; count = omega arith; free = λ e. refl }) (λ j k e x. absurd (semaphore-unwaited (s .queued) o l z j k e x)))
-
-  -- ---- mutexes
+  -- ---- a release
 
   module _ (m : ℕ) (l : m < mutexCount) where
-    -- Who waits for it.
-    waiter : (j : ℕ) → j < taskCount → taskOf t j .state ≡ waitsMutex → taskOf t j .object ≡ m → HeldApart j (mutexOf t m)
-    waiter j k e x = subst (λ (i : ℕ). HeldApart j (mutexOf t i)) x (linked .waits j k .mutex e)
-
-    pub mutexCreated-objects : mutexOf t m .used ≡ 0 → Queued (withMutex m (heldBy 0 0) t) → ObjectsRight (withMutex m (heldBy 0 0) t)
-    mutexCreated-objects z q =
-        linked-objects q (linked-mutex m (heldBy 0 0) linked unheld (λ j k e x. absurd (omega (arith, waiter j k e x .used))) (λ d. absurd (d refl)))
-
-    pub mutexTaken-objects : mutexOf t m .holder ≡ 0 → (i : ℕ) → i < taskCount → isAble (taskOf t i) ≡ true
-        → Queued (withMutex m (heldBy (written i) 1) t) → ObjectsRight (withMutex m (heldBy (written i) 1) t)
-    mutexTaken-objects z i n a q =
-        linked-objects q
-        (linked-mutex m (heldBy (written i) 1) linked (held-right (written i) 1 (omega arith) (omega arith) (omega arith) (omega arith)) (λ j k e x. absurd (waiter j k e x .held z)) (λ d. subst (λ (j : ℕ). taskOf t j .used ≡ 1) (omega arith) (able (taskOf t i) .holds a .used)))
-
-    pub mutexNested-objects : mutexOf t m .holder ≢ 0 → (n : ℕ) → 1 ≤ n → n ≤ mostNested
-        → Queued (withMutex m (heldBy (mutexOf t m .holder) n) t) → ObjectsRight (withMutex m (heldBy (mutexOf t m .holder) n) t)
-    mutexNested-objects h n g k q =
-        linked-objects q
-        (linked-mutex m (heldBy (mutexOf t m .holder) n) linked (held-right (mutexOf t m .holder) n h (linked .mutexes m l .holder) g k) (λ j k e x. let w = waiter j k e x in record { used = refl; held = w .held; apart = w .apart }) (linked .holders m l))
-
-    pub mutexGone-objects : Empty (mutexQueue m) t
-        → Queued (walk (holderOf t m) (withMutex m noMutex t)) → ObjectsRight (walk (holderOf t m) (withMutex m noMutex t))
-    mutexGone-objects z q =
-        linked-objects q
-        (linked-same (walk-bare (holderOf t m) (withMutex m noMutex t)) (walk-rest (holderOf t m) (withMutex m noMutex t)) (walk-size (holderOf t m) (withMutex m noMutex t))
-        (linked-mutex m noMutex linked (record { used = omega arith; holder = omega arith; nesting = omega arith; free = λ e. refl; unheld = λ e. refl; held = λ d. absurd (d refl) }) (λ j k e x. absurd (mutex-unwaited (s .queued) m l z j k e x)) (λ d. absurd (d refl))))
-
     pub released-objects : Queued (freed m t) → Queued (released m t) → ObjectsRight (released m t)
     released-objects f q = linked-objects q (released-one Linked m t none one)
       where

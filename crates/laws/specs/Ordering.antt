@@ -7,15 +7,16 @@ use native.Mathlib.Decide.{ℕ-discrete}
 use native.Mathlib.Omega.{arith}
 use lib.Dec.{ltb}
 use borrow.Author.Tests.{eq-eqb, ne-eqb}
-use Rattle.rules.specs.Sizes.{taskCount, semaphoreCount, mutexCount, waitsSemaphore, waitsMutex, given, aborted, objectDeleted}
-use Rattle.rules.specs.Table.{Table, taskOf, mutexOf, semaphoreOf, queueOf, queueCount, ableQueue, semaphoreQueue, mutexQueue, firstIn, placeOf, written, noTask, noMutex, counting, heldBy, withBase, withState, withMutex}
-use Rattle.rules.specs.Move.{put, walk, next, holderOf, ready, ended, chosen}
+use Rattle.rules.specs.Sizes.{taskCount, semaphoreCount, mutexCount, given, aborted, objectDeleted}
+use Rattle.rules.specs.Table.{Table, taskOf, mutexOf, semaphoreOf, queueOf, queueCount, ableQueue, semaphoreQueue, mutexQueue, firstIn, placeOf, written, noTask, counting, heldBy, withBase, withState, withMutex}
+use Rattle.rules.specs.Move.{put, walk, next, ready, ended, chosen}
 use Rattle.rules.specs.Task.{create, delete, changePriority, suspend, resume}
 use Rattle.rules.specs.Time.{callerOf, yield, delay, delayResume}
 use Rattle.rules.specs.Lock.{lock, unlock}
-use Rattle.rules.specs.Object.{limited, blocked, taken, abort}
-use Rattle.rules.specs.Semaphore.{semaphoreCreate, semaphoreDelete, semaphoreWait, semaphorePost, semaphoreAbort}
-use Rattle.rules.specs.Mutex.{isHeld, isOwn, mutexCreate, mutexDelete, mutexWait, mutexPost, mutexAbort}
+use Rattle.rules.specs.Family.{Family, waitersOf}
+use Rattle.rules.specs.Object.{limited, blocked, waits, taken, abort, objectAbort, objectDelete}
+use Rattle.rules.specs.Semaphore.{semaphores, semaphoreCreate, semaphoreWait, semaphorePost}
+use Rattle.rules.specs.Mutex.{isHeld, isOwn, mutexCreate, mutexWait, mutexPost}
 use Rattle.rules.specs.Step.{changeBy, forInterrupts, answer, effect, changes, serve, step}
 use Rattle.rules.specs.Sound.{Sound}
 use Rattle.rules.specs.declared.Task.{Task}
@@ -26,14 +27,16 @@ use Rattle.laws.specs.Put.{either, task-put-same, place-same}
 use Rattle.laws.specs.Fields.{walk-place}
 use Rattle.laws.specs.Becomes.{caller, freed, given-to, released-one}
 use Rattle.laws.specs.Queues.{put-queued, semaphore-queued, mutex-queued}
-use Rattle.laws.specs.Stands.{first-range, first-there, able-stands, mutex-place}
+use Rattle.laws.specs.Stands.{first-range, first-there, able-stands}
 use Rattle.laws.specs.Running.{caller-able, chosen-one}
 use Rattle.laws.specs.Accepted.{Accepted, accepts}
 use Rattle.laws.specs.Sounds.{step-serve}
 use Rattle.laws.specs.Order.{Before, Stayed, Rotated, yields, OrderKept}
 use Rattle.laws.specs.Moved.{Two, Same, Moved, walks-oneway, put-kept, moved-on, put-moved, same-moved, apart-moved, rotate-moved, walk-moved}
-use Rattle.laws.specs.Rising.{Rises, rises-oneway, freed-rises, no-waiter, not-able, sound-fit, mutex-fit, Risen, risen-on, same-risen, walk-risen, ended-risen, all-risen}
+use Rattle.laws.specs.Rising.{Rises, rises-oneway, freed-rises, no-waiter, not-able, settled-fit, sound-fit, mutex-fit, Risen, risen-on, same-risen, walk-risen, ended-risen, all-risen}
 use Rattle.laws.specs.Found.{peer}
+use Rattle.laws.specs.Ending.{sound-unchosen, emptied-all}
+use Rattle.laws.specs.Families.{stored-unchosen, Lawful, semaphores-lawful, mutexes-lawful}
 use Rattle.laws.specs.Turn.{ticked-risen}
 
 -- ---- what is to be shown
@@ -132,20 +135,24 @@ module _ {q a b : ℕ} (m : q < queueCount) (two : Two a b) where
         go (yes z) = rw (eq-eqb _ 0 z) (unmoved-kept refl)
         go (no z) = rw (ne-eqb _ 0 z) (first-kept given (semaphoreQueue n) (omega (arith, l)) (λ e. omega arith) z)
 
-    semaphoreDelete-kept : (n : ℕ) → n < semaphoreCount → Kept q a b t (semaphoreDelete n t)
-    unfolding semaphoreDelete
-    semaphoreDelete-kept n l =
-        like-kept refl refl (moved-kept (all-risen two taskCount objectDeleted (semaphoreQueue n) (omega arith) (λ e. omega arith) t (sound-fit s) .moved))
-
-    -- The chain of the holder of the mutex moves last.
-    mutexDelete-kept : (n : ℕ) → n < mutexCount → Kept q a b t (mutexDelete n t)
-    unfolding mutexDelete
-    mutexDelete-kept n l =
+    -- Each waiter is let go, the object goes, and the chain of its holder moves last.
+    objectDelete-kept : {f : Family} → Lawful f → (o : ℕ) → o < f .count → Kept q a b t (objectDelete f o t)
+    unfolding objectDelete
+    objectDelete-kept {f} k o l =
+        let p = waitersOf f o in
+        let n : p < queueCount = omega (arith, k .range) in
+        let d : p ≢ ableQueue = λ e. omega (arith, k .queues) in
+        let e = emptied-all p n d (sound-unchosen s) in
+        let x = k .goes (e .unchosen .settled) o l (e .empty) in
         moved-kept
         (risen-on two
-        (all-risen two taskCount objectDeleted (mutexQueue n) (omega arith) (λ e. omega arith) t (sound-fit s))
-        (λ f. risen-on two (same-risen two (mutex-fit f n noMutex refl) refl refl) (λ g. walk-risen two g (holderOf t n)))
+        (all-risen two taskCount objectDeleted p n d t (sound-fit s))
+        (λ g. risen-on two (same-risen two (settled-fit (stored-unchosen (e .unchosen) x .settled)) (x .tasks) (x .queues)) (λ g. walk-risen two g (f .holder t o)))
         .moved)
+
+    objectAbort-kept : {f : Family} → Lawful f → (o : ℕ) → o < f .count → firstIn (waitersOf f o) t ≢ 0 → Kept q a b t (objectAbort f o t)
+    unfolding objectAbort abort
+    objectAbort-kept {f} k o l z = first-kept aborted (waitersOf f o) (omega (arith, k .range)) (λ e. omega (arith, k .queues)) z
 
     -- The mutex goes to the first that waits for it.
     given-moved : {u : Table} (n w : ℕ) → w ≢ 0 → Queued u → placeOf (taskOf u (w - 1)) ≢ ableQueue → Moved (λ x. Rises) a b u (given-to n w u)
@@ -176,22 +183,19 @@ module _ {q a b : ℕ} (m : q < queueCount) (two : Two a b) where
     unfolding taken
     taken-kept r = one-kept _ _ r
 
-    blocked-kept : (state object limit : ℕ) → Kept q a b t (blocked state object limit t)
-    unfolding blocked
-    blocked-kept state object limit = one-kept _ _ queued
-
-    semaphoreWait-kept : (n limit : ℕ) → Kept q a b t (semaphoreWait n limit t)
-    unfolding semaphoreWait
-    semaphoreWait-kept n limit =
-        let x = counting (semaphoreOf t n .count - 1) in
-        either (Kept q a b t) (ltb 0 (semaphoreOf t n .count)) (from-like refl refl (taken-kept (semaphore-queued n x queued))) (blocked-kept waitsSemaphore n limit)
-
     -- The caller leaves the able queue.
-    mutexBlocked-kept : (n limit w : ℕ) → t .running ≢ 0 → Kept q a b t (walk w (blocked waitsMutex n limit t))
-    unfolding blocked
-    mutexBlocked-kept n limit w r =
-        let k = withState waitsMutex n (limited limit t (caller t)) in
-        chain-kept (callerOf t) k w queued (λ x y. ⊎-elim r (λ h. omega (arith, able-stands (caller t) h, mutex-place k refl)) (caller-able queued (sound-runs s)))
+    waits-kept : {f : Family} → Lawful f → (o limit : ℕ) → t .running ≢ 0 → Kept q a b t (waits f o limit t)
+    unfolding waits blocked
+    waits-kept {f} n o limit r =
+        let k = withState (f .state) o (limited limit t (caller t)) in
+        chain-kept (callerOf t) k (f .holder t o) queued
+        (λ x y. ⊎-elim r (λ h. not-able k (λ e. omega (arith, n .waiting)) (y ∙ sym x ∙ able-stands (caller t) h)) (caller-able queued (sound-runs s)))
+
+    semaphoreWait-kept : (n limit : ℕ) → t .running ≢ 0 → Kept q a b t (semaphoreWait n limit t)
+    unfolding semaphoreWait
+    semaphoreWait-kept n limit r =
+        let x = counting (semaphoreOf t n .count - 1) in
+        either (Kept q a b t) (semaphores .offers t n) (from-like refl refl (taken-kept (semaphore-queued n x queued))) (waits-kept semaphores-lawful n limit r)
 
     mutexWait-kept : (n limit : ℕ) → t .running ≢ 0 → Kept q a b t (mutexWait n limit t)
     unfolding mutexWait
@@ -200,14 +204,14 @@ module _ {q a b : ℕ} (m : q < queueCount) (two : Two a b) where
         let nested = heldBy (mutexOf t n .holder) (mutexOf t n .nesting + 1) in
         either (Kept q a b t) (not (isHeld n t))
         (from-like refl refl (taken-kept (mutex-queued n own queued)))
-        (either (Kept q a b t) (isOwn n t) (from-like refl refl (taken-kept (mutex-queued n nested queued))) (mutexBlocked-kept n limit (holderOf t n) r))
+        (either (Kept q a b t) (isOwn n t) (from-like refl refl (taken-kept (mutex-queued n nested queued))) (waits-kept mutexes-lawful n limit r))
 
     -- ---- all calls
 
     -- Of a call that is accepted; an interrupt's yield is not.
     change-kept : (c : Call) (interrupt : Bool) → changes (answer c interrupt t) ≡ true → Accepted c t
         → (Rotated c interrupt t a → ⊥) → (Rotated c interrupt t b → ⊥) → Kept q a b t (changeBy c t)
-    unfolding answer forInterrupts changeBy create suspend resume delay delayResume lock unlock semaphoreCreate semaphoreAbort mutexCreate mutexAbort abort
+    unfolding answer forInterrupts changeBy create suspend resume delay delayResume lock unlock semaphoreCreate mutexCreate
     change-kept (TaskCreate i base quantum) by e h x y = one-kept i _ queued
     change-kept (TaskDelete i) by e h x y = delete-kept i
     change-kept (ChangePriority i base) by e h x y = priority-kept i base
@@ -221,15 +225,15 @@ module _ {q a b : ℕ} (m : q < queueCount) (two : Two a b) where
     change-kept Unlock by e h x y = unmoved-kept refl
     change-kept Tick by e h x y = moved-kept (ticked-risen by two s x y .moved)
     change-kept (SemaphoreCreate n v) by e h x y = unmoved-kept refl
-    change-kept (SemaphoreDelete n force) by e l x y = semaphoreDelete-kept n l
-    change-kept (SemaphoreWait n block limit) by e h x y = semaphoreWait-kept n limit
+    change-kept (SemaphoreDelete n force) by e l x y = objectDelete-kept semaphores-lawful n l
+    change-kept (SemaphoreWait n block limit) by e h x y = semaphoreWait-kept n limit (h .0)
     change-kept (SemaphorePost n) by e (l, m) x y = post-kept n l
-    change-kept (SemaphoreAbort n) by e (l, z) x y = first-kept aborted (semaphoreQueue n) (omega arith) (λ e. omega arith) z
+    change-kept (SemaphoreAbort n) by e (l, z) x y = objectAbort-kept semaphores-lawful n l z
     change-kept (MutexCreate n) by e h x y = unmoved-kept refl
-    change-kept (MutexDelete n force) by e l x y = mutexDelete-kept n l
+    change-kept (MutexDelete n force) by e l x y = objectDelete-kept mutexes-lawful n l
     change-kept (MutexWait n block limit) by e h x y = mutexWait-kept n limit (h .0)
     change-kept (MutexPost n) by e h x y = mutexPost-kept n (h .1)
-    change-kept (MutexAbort n) by e (l, z) x y = first-kept aborted (mutexQueue n) (omega arith) (λ e. omega arith) z
+    change-kept (MutexAbort n) by e (l, z) x y = objectAbort-kept mutexes-lawful n l z
 
 -- ---- the law
 

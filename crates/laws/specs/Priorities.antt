@@ -8,10 +8,10 @@ use native.Mathlib.Omega.{arith}
 use lib.Dec.{eqb}
 use lib.ListN.{length, List·getD-eq-default}
 use borrow.Author.Tests.{eq-eqb}
-use Rattle.rules.specs.Sizes.{taskCount, semaphoreCount, mutexCount, lastPriority, mostNested, mostQuantum, ticksRound, plain, waitsSemaphore, waitsMutex, objectDeleted}
+use Rattle.rules.specs.Sizes.{taskCount, mutexCount, lastPriority, mostNested, mostQuantum, ticksRound, plain, waitsMutex, objectDeleted}
 use Rattle.rules.specs.Chain.{after, Leads, Fresh, fresh}
 use Rattle.rules.specs.Afresh.{lt-or-le, here, split, fresh-is, fresh-one}
-use Rattle.rules.specs.Table.{Table, taskOf, semaphoreOf, mutexOf, isAble, written, noTask, noMutex, withBase}
+use Rattle.rules.specs.Table.{Table, taskOf, mutexOf, isAble, written, noTask, noMutex, withBase, withState}
 use Rattle.rules.specs.Move.{put, rotate, holderOf, next, baseOf, walk, away, ended}
 use Rattle.rules.specs.Task.{created, create, holdsBelow, delete, changePriority, suspend, resume}
 use Rattle.rules.specs.Time.{callerOf, delay}
@@ -44,6 +44,10 @@ module _ {t : Table} (w : WorkedOut t) {i : ℕ} {k : Task} {u : Table} (s : Sto
   -- Task i waits for no mutex, as before.
   waits-not : k .state ≢ waitsMutex → next t i ≡ taskCount → k .base ≡ baseOf t i → k .work ≡ taskOf t i .work → WorkedOut u
   waits-not d n b p = alike-worked (stored-alike s (waits-none (holderOf t) k d ∙ sym n) b p) w
+
+-- A walk where all is worked out changes nothing of it.
+pub walk-worked : (t : Table) (s : ℕ) → length (t .tasks) ≡ taskCount → WorkedOut t → WorkedOut (walk s t)
+walk-worked t s z w = walked s t z (λ j l apart. worked-computed t z w j l)
 
 -- An able task waits for none.
 pub able-next : (t : Table) (i : ℕ) → isAble (taskOf t i) ≡ true → next t i ≡ taskCount
@@ -79,15 +83,6 @@ module _ {t : Table} (h : Settled t) where
   pub delay-worked : (n : ℕ) → callerOf t < taskCount → isAble (taskOf t (callerOf t)) ≡ true → 0 < n → n < ticksRound → WorkedOut (delay n t)
   unfolding delay
   delay-worked n l a some most = waits-not (h .worked) (put-stored (callerOf t) _ t l) (λ e. omega arith) (able-next t (callerOf t) a) refl refl
-
-  pub semaphoreBlocked-worked : (s limit : ℕ) → s < semaphoreCount → semaphoreOf t s .used ≡ 1 → semaphoreOf t s .count ≡ 0
-      → callerOf t < taskCount → isAble (taskOf t (callerOf t)) ≡ true → limit < ticksRound
-      → WorkedOut (blocked waitsSemaphore s limit t)
-  unfolding blocked
-  semaphoreBlocked-worked s limit m u z l a most =
-      let c = callerOf t in
-      let same = limited-keeps limit t (taskOf t c) in
-      waits-not (h .worked) (put-stored c _ t l) (λ e. omega arith) (able-next t c a) (same .0) (same .1)
 
 -- ---- a change, and the walk from where it began
 
@@ -149,14 +144,27 @@ module _ {t : Table} (h : Settled t) where
       still : next (walk (next t i) (put i k t)) i ≡ taskCount
       still = ap (λ (n : ℕ → ℕ). n i) (walk-next (next t i) (put i k t)) ∙ stored-next s (omega (arith, sized h)) ∙ waits-none (holderOf t) k (λ e. omega arith)
 
-  pub mutexBlocked-worked : (m limit : ℕ) → m < mutexCount → mutexOf t m .used ≡ 1 → mutexOf t m .holder ≢ 0 → mutexOf t m .holder ≢ written (callerOf t)
-      → callerOf t < taskCount → isAble (taskOf t (callerOf t)) ≡ true → limit < ticksRound
-      → WorkedOut (walk (holderOf t m) (blocked waitsMutex m limit t))
+  -- A wait begins: where it is for a mutex, the walk from its holder.
+  pub blocked-worked : (state object limit w : ℕ) → (state ≡ waitsMutex → w ≡ holderOf t object) → callerOf t < taskCount → isAble (taskOf t (callerOf t)) ≡ true
+      → WorkedOut (walk w (blocked state object limit t))
   unfolding blocked
-  mutexBlocked-worked m limit q u held other l a most =
-      let c = callerOf t in
-      let same = limited-keeps limit t (taskOf t c) in
-      wait-begun h l (put-stored c _ t l) (same .0) (same .1) (able-next t c a) refl
+  blocked-worked state object limit w from l a = go (ℕ-discrete state waitsMutex)
+    where
+      c : ℕ
+      c = callerOf t
+
+      k : Task
+      k = withState state object (limited limit t (taskOf t c))
+
+      s : Stored c k t (put c k t)
+      s = put-stored c k t l
+
+      same : (k .base ≡ baseOf t c) × (k .work ≡ taskOf t c .work)
+      same = limited-keeps limit t (taskOf t c)
+
+      go : Dec (state ≡ waitsMutex) → WorkedOut (walk w (put c k t))
+      go (yes e) = rw (from e) (wait-begun h l s (same .0) (same .1) (able-next t c a) e)
+      go (no d) = walk-worked (put c k t) w (stored-size s (sized h)) (waits-not (h .worked) s d (able-next t c a) (same .0) (same .1))
 
 -- ---- a task that comes or goes
 

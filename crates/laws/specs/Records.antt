@@ -5,9 +5,9 @@ use mathlib.Core.Bool.{true}
 use Prim.Native.Nat.{ℕ, _≤_, _<_}
 use native.Mathlib.Omega.{arith}
 use lib.Dec.{eqb}
-use Rattle.rules.specs.Sizes.{taskCount, semaphoreCount, mutexCount, lastPriority, mostNested, mostQuantum, plain, delayed, waitsSemaphore, waitsMutex, given, objectDeleted}
-use Rattle.rules.specs.Table.{Table, taskOf, isAble, noTask, noMutex, withBase, withWork, withSuspend, withLeft, withState, withMark, withOutcome, withMutex}
-use Rattle.rules.specs.Move.{put, rotate, walk, next, holderOf, away, ready, ended}
+use Rattle.rules.specs.Sizes.{taskCount, lastPriority, mostNested, mostQuantum, plain, delayed, waitsMutex, given, objectDeleted}
+use Rattle.rules.specs.Table.{Table, taskOf, isAble, noTask, withBase, withWork, withSuspend, withLeft, withState, withMark, withOutcome}
+use Rattle.rules.specs.Move.{put, rotate, walk, next, away, ready, ended}
 use Rattle.rules.specs.Sound.{objectsIn, marksIn, TaskInRange}
 use Rattle.rules.specs.Task.{created, create, delete, changePriority, suspend, resume}
 use Rattle.rules.specs.Time.{callerOf, markIn, delay}
@@ -142,7 +142,7 @@ module _ {t : Table} (s : Settled t) where
     unfolding delay objectsIn
     delay-tasks n = put-tasks _ _ _ (marked-right (s .tasks _ l) (caller-used t a) delayed 0 n t (omega arith) (omega arith) (omega arith)) (s .tasks)
 
-    blocked-tasks : (state object limit : ℕ) → state ≤ waitsMutex → state ≢ plain → object < objectsIn state → TasksRight (blocked state object limit t)
+    pub blocked-tasks : (state object limit : ℕ) → state ≤ waitsMutex → state ≢ plain → object < objectsIn state → TasksRight (blocked state object limit t)
     unfolding blocked
     blocked-tasks state object limit m d o = put-tasks _ _ _ (limited-right (s .tasks _ l) (caller-used t a) state object limit t m d o) (s .tasks)
 
@@ -150,21 +150,10 @@ module _ {t : Table} (s : Settled t) where
     unfolding taken
     taken-tasks = put-tasks _ _ _ (outcome-right (s .tasks _ l) (caller-used t a) given (omega arith)) (s .tasks)
 
-    pub semaphoreBlocked-tasks : (o limit : ℕ) → o < semaphoreCount → TasksRight (blocked waitsSemaphore o limit t)
-    unfolding objectsIn
-    semaphoreBlocked-tasks o limit m = blocked-tasks waitsSemaphore o limit (omega arith) (omega arith) m
-
-    pub mutexBlocked-tasks : (m limit : ℕ) → m < mutexCount → TasksRight (walk (holderOf t m) (blocked waitsMutex m limit t))
-    unfolding objectsIn
-    mutexBlocked-tasks m limit n = walk-tasks _ _ (blocked-tasks waitsMutex m limit (omega arith) (omega arith) n)
-
   pub turned-tasks : callerOf t < taskCount → TasksRight (turned t)
   turned-tasks l =
       let less : TasksRight (shorter t) = put-tasks _ _ _ (left-right (s .tasks _ l) _ (omega (arith, s .tasks _ l .left))) (s .tasks) in
       turned-one TasksRight t (s .tasks) less (rotate-tasks _ _ l less)
-
-  pub mutexGone-tasks : (m : ℕ) → TasksRight (walk (holderOf t m) (withMutex m noMutex t))
-  mutexGone-tasks m = walk-tasks _ _ (s .tasks)
 
   pub released-tasks : (m : ℕ) → TasksRight (released m t)
   released-tasks m = released-one TasksRight m t (λ e. moved) (λ d j k. put-each (λ n x. n < taskCount → TaskRight x) _ _ _ j (λ l. plain-right (moved _ l)) (moved j) k)
@@ -175,7 +164,7 @@ module _ {t : Table} (s : Settled t) where
 -- ---- each call: DelaysMarked
 
 -- "a delayed one has one", of one task
-abbrev DelayMarked : Task → Type 0
+abbrev pub DelayMarked : Task → Type 0
 DelayMarked k = k .state ≡ delayed → k .marked ≡ 1
 
 delays-become : {i : ℕ} {k : Task} {t u : Table} → Becomes i k t u → DelayMarked k → DelaysMarked t → DelaysMarked u
@@ -208,20 +197,14 @@ module _ {t : Table} (s : Settled t) where
     pub delay-delays : (n : ℕ) → DelaysMarked (delay n t)
     delay-delays n = delays-become (delay-becomes l (sized s) n) (omega arith) (s .delays)
 
-    pub semaphoreBlocked-delays : (o limit : ℕ) → DelaysMarked (blocked waitsSemaphore o limit t)
-    semaphoreBlocked-delays o limit = delays-become (blocked-becomes l (sized s) waitsSemaphore o limit) (omega arith) (s .delays)
-
-    pub mutexBlocked-delays : (m limit : ℕ) → DelaysMarked (walk (holderOf t m) (blocked waitsMutex m limit t))
-    mutexBlocked-delays m limit = delays-become (then-walk _ (blocked-becomes l (sized s) waitsMutex m limit)) (omega arith) (s .delays)
+    pub blocked-delays : (state object limit w : ℕ) → state ≢ delayed → DelaysMarked (walk w (blocked state object limit t))
+    blocked-delays state object limit w d = delays-become (then-walk w (blocked-becomes l (sized s) state object limit)) (λ e. absurd (d e)) (s .delays)
 
     pub taken-delays : DelaysMarked (taken t)
     taken-delays = delays-become (taken-becomes l (sized s)) (s .delays _ l) (s .delays)
 
     pub turned-delays : DelaysMarked (turned t)
     turned-delays = delays-become (turned-becomes l (sized s) .1) (s .delays _ l) (s .delays)
-
-  pub mutexGone-delays : (m : ℕ) → DelaysMarked (walk (holderOf t m) (withMutex m noMutex t))
-  mutexGone-delays m = walk-each DelayMarked (λ k p l r. r) _ _ (s .delays)
 
   pub released-delays : (m : ℕ) → DelaysMarked (released m t)
   released-delays m j = released-each (λ n k. n < taskCount → DelayMarked k) m t (λ i k old l. omega arith) (s .delays) j

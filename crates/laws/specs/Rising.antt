@@ -14,7 +14,7 @@ use Rattle.rules.specs.Tick.{dueEnded, dueBelow}
 use Rattle.rules.specs.Sound.{Each, Sound}
 use Rattle.rules.specs.declared.Task.{Task}
 use Rattle.rules.specs.declared.Mutex.{Mutex}
-use Rattle.laws.specs.Settled.{Queued, sound-settled}
+use Rattle.laws.specs.Settled.{Queued, sound-settled, Settled, sized}
 use Rattle.laws.specs.Put.{put-stored, rotate-stored, put-each, rotate-each, task-put-same, part-put, walk-inv}
 use Rattle.laws.specs.Queues.{put-queued, rotate-queued, mutex-queued}
 use Rattle.laws.specs.Stands.{able, Place, ready, forSemaphore, forMutex, nowhere, place, able-there, first-range, first-there}
@@ -108,14 +108,17 @@ pub record Fit (t : Table) : Type 0 where
   pub marks : Each taskCount (λ i. Unmarked (taskOf t i))
 
 -- A sound table is fit.
-pub sound-fit : {t : Table} → Sound t → Fit t
+pub settled-fit : {t : Table} → Settled t → Fit t
 unfolding freshIn
-sound-fit {t} s =
+settled-fit {t} s =
     record {
-      queued = sound-settled s .queued;
-      lags = λ i l. omega (arith, worked-computed t (s .shaped .tasks) (s .worked) i l);
-      marks = s .plainMarks;
+      queued = s .queued;
+      lags = λ i l. omega (arith, worked-computed t (sized s) (s .worked) i l);
+      marks = λ i l. s .tasks i l .plainMark;
     }
+
+pub sound-fit : {t : Table} → Sound t → Fit t
+sound-fit s = settled-fit (sound-settled s)
 
 module _ {t : Table} (f : Fit t) where
   -- A task that waits for no mutex changes.

@@ -8,8 +8,8 @@ use native.Mathlib.Omega.{arith}
 use lib.Dec.{eqb}
 use borrow.Author.Tests.{eqb-true, eqb-false}
 use Rattle.rules.specs.Sizes.{taskCount, given}
-use Rattle.rules.specs.Table.{Table, taskOf, ableQueue, firstIn, written, isAble, noMutex, withRunning, withDepth, withMutex}
-use Rattle.rules.specs.Move.{ready, rotate, walk, holderOf, ended, chosen}
+use Rattle.rules.specs.Table.{Table, taskOf, ableQueue, firstIn, written, isAble, withRunning, withDepth}
+use Rattle.rules.specs.Move.{ready, rotate, walk, ended, chosen}
 use Rattle.rules.specs.Task.{create, delete, changePriority, suspend, resume}
 use Rattle.rules.specs.Time.{callerOf}
 use Rattle.rules.specs.Object.{taken}
@@ -17,7 +17,7 @@ use Rattle.rules.specs.Mutex.{released}
 use Rattle.rules.specs.Tick.{turned}
 use Rattle.rules.specs.declared.Task.{Task}
 use Rattle.laws.specs.Settled.{Queued, RunsRight, Settled, sized}
-use Rattle.laws.specs.Fields.{frame, bare, bare-able, walk-rest, walk-bare}
+use Rattle.laws.specs.Fields.{frame, bare, bare-able}
 use Rattle.laws.specs.Put.{either}
 use Rattle.laws.specs.Becomes.{Becomes, becomes-each, create-becomes, delete-becomes, changePriority-becomes, suspend-becomes, resume-becomes, rotate-becomes, ended-becomes, caller, taken-becomes, turned-becomes, released-each, released-frame}
 use Rattle.laws.specs.Stands.{Able, able, able-there, first-range, first-there}
@@ -132,9 +132,6 @@ module _ {t : Table} (s : Settled t) (r : RunsOn t) where
 
   pub turned-runs : RunsOn (turned t)
   turned-runs = becomes-runs (turned-becomes caller-task (sized s) .1) (λ d e a. record { used = a .used; state = a .state; suspend = a .suspend }) r
-
-  pub mutexGone-runs : (m : ℕ) → RunsOn (walk (holderOf t m) (withMutex m noMutex t))
-  mutexGone-runs m = same-runs (walk-bare (holderOf t m) (withMutex m noMutex t)) (ap frame (walk-rest (holderOf t m) (withMutex m noMutex t))) r
 
   pub released-runs : (m : ℕ) → RunsOn (released m t)
   released-runs m =

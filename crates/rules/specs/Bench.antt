@@ -15,11 +15,11 @@ use Rattle.rules.specs.Move.{leave, join, stays, put, rotate, holderOf, 
 use Rattle.rules.specs.Task.{createAnswer, create, suspendAnswer, suspend, resumeAnswer, resume}
 use Rattle.rules.specs.Time.{delayAnswer, delay}
 use Rattle.rules.specs.Lock.{lockAnswer, lock, unlockAnswer, unlock}
-use Rattle.rules.specs.Object.{blocked, taken}
-use Rattle.rules.specs.Semaphore.{semaphoreCreateAnswer, semaphoreCreate, semaphoreWaitAnswer, semaphoreWait, semaphorePostAnswer, semaphorePost}
-use Rattle.rules.specs.Mutex.{mutexCreateAnswer, mutexCreate, mutexWaitAnswer, mutexWait, mutexPostAnswer, handed, released, mutexPost}
+use Rattle.rules.specs.Object.{objectCreateAnswer, blocked, waits, taken}
+use Rattle.rules.specs.Semaphore.{semaphoreCreate, semaphoreWaitAnswer, semaphoreWait, semaphorePostAnswer, semaphorePost}
+use Rattle.rules.specs.Mutex.{mutexCreate, mutexWaitAnswer, mutexWait, mutexPostAnswer, handed, released, mutexPost}
 use Rattle.rules.specs.Tick.{turned, dueEnded, dueBelow, ticked}
-use Rattle.rules.specs.Step.{Outcome, answerTo, changeBy, forInterrupts, answer, effect, serve, step}
+use Rattle.rules.specs.Step.{answerTo, changeBy, forInterrupts, answer, effect, serve, step}
 use Rattle.rules.specs.Port.{ofKind, reading}
 use Rattle.rules.specs.Tape.{little, widths, sum, numbers, bodyLength, callIn, decimal, runner, line, printedOf, printed, tape}
 use Rattle.rules.specs.declared.Call.{Call}
@@ -141,7 +141,7 @@ pub record Bench : Type 0 where
   pub is-given : (taskOf (after suspended-waiter (SemaphorePost 0 ∷ [])) 1 .state ≡ plain) × (runs suspended-waiter (SemaphorePost 0 ∷ Resume 1 ∷ []) ≡ written 2 ∷ written 1 ∷ [])
 
 pub bench : Bench
-unfolding firstAt later push pull opened closed leads smallest fresh walkOn freshTable isAble placeOf works leave join stays put rotate holderOf next freshIn ended endedAll chosen peerBelow createAnswer create suspendAnswer suspend resumeAnswer resume delayAnswer delay lockAnswer lock unlockAnswer unlock blocked taken semaphoreCreateAnswer semaphoreCreate semaphoreWaitAnswer semaphoreWait semaphorePostAnswer semaphorePost mutexCreateAnswer mutexCreate mutexWaitAnswer mutexWait mutexPostAnswer handed released mutexPost turned dueEnded dueBelow ticked answerTo changeBy forInterrupts answer effect serve ofKind reading little widths sum numbers bodyLength callIn decimal runner line printedOf printed tape step count mayPrecede fits isOrdered each isShaped objectsIn marksIn isTaskInRange isInRange isNoTask isNoSemaphore isNoMutex isFreeZero isQueued isWaited isWorked isHeldRight isTimed runsRight isSound after answers runs
+unfolding firstAt later push pull opened closed leads smallest fresh walkOn freshTable isAble placeOf works leave join stays put rotate holderOf next freshIn ended endedAll chosen peerBelow createAnswer create suspendAnswer suspend resumeAnswer resume delayAnswer delay lockAnswer lock unlockAnswer unlock objectCreateAnswer blocked waits taken semaphoreCreate semaphoreWaitAnswer semaphoreWait semaphorePostAnswer semaphorePost mutexCreate mutexWaitAnswer mutexWait mutexPostAnswer handed released mutexPost turned dueEnded dueBelow ticked answerTo changeBy forInterrupts answer effect serve ofKind reading little widths sum numbers bodyLength callIn decimal runner line printedOf printed tape step count mayPrecede fits isOrdered each isShaped objectsIn marksIn isTaskInRange isInRange isNoTask isNoSemaphore isNoMutex isFreeZero isQueued isWaited isWorked isHeldRight isTimed runsRight isSound after answers runs
 bench =
     record {
       p1 = refl;

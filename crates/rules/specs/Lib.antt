@@ -10,6 +10,7 @@ pub mod Tested
 pub mod Task
 pub mod Time
 pub mod Lock
+pub mod Family
 pub mod Object
 pub mod Semaphore
 pub mod Mutex

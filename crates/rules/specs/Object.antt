@@ -1,13 +1,14 @@
--- What the calls on semaphores and on mutexes share.
+-- The calls that every kind of object has, over its family: create, delete, a wait that blocks, abort.
 use mathlib.Core.Bool.{Bool, cond, not, _&&_}
 use Prim.Native.Nat.{ℕ, _-_}
 use lib.Dec.{eqb, ltb, leb}
 use Rattle.rules.specs.Sizes.{taskCount, given, aborted, objectDeleted, done, beyondRange, notInUse, inUse, badValue, whileLocked, nothingToTake, nothingToUndo, stillNeeded, blocks}
 use Rattle.rules.specs.declared.Task.{Task}
 use Rattle.rules.specs.Table.{Table, taskOf, isUsed, firstIn, withState, withMark, withOutcome}
-use Rattle.rules.specs.Move.{put, ended, endedAll}
+use Rattle.rules.specs.Move.{put, walk, ended, endedAll}
 use Rattle.rules.specs.Task.{isLocked}
-use Rattle.rules.specs.Time.{callerOf, markIn}
+use Rattle.rules.specs.Time.{byCaller, callerOf, markIn}
+use Rattle.rules.specs.Family.{Family, waitersOf}
 
 -- The answer of a call on object o of `count`, which is in range and in use, or else the number that says what is wrong.
 abbrev pub onObject : (count o used answer : ℕ) → ℕ
@@ -16,6 +17,13 @@ onObject count o used answer = cond (leb count o) beyondRange (cond (not (isUsed
 -- "create: the number is in use"
 abbrev pub createObject : (count o used : ℕ) → ℕ
 createObject count o used = cond (leb count o) beyondRange (cond (isUsed used) inUse done)
+
+-- The answer of a call on number o of the family, which is in use.
+abbrev pub onOne : Family → ℕ → Table → ℕ → ℕ
+onOne f o t answer = onObject (f .count) o (f .used t o) answer
+
+unfoldable pub objectCreateAnswer : Family → ℕ → Table → ℕ
+objectCreateAnswer f o t = createObject (f .count) o (f .used t o)
 
 -- "a yes/no byte above 1"
 abbrev pub yesNo : ℕ → ℕ → ℕ
@@ -38,6 +46,14 @@ limited limit t k = cond (eqb limit 0) (withMark 0 0 k) (withMark 1 (markIn limi
 unfoldable pub blocked : (state object limit : ℕ) → Table → Table
 blocked state object limit t = put (callerOf t) (withState state object (limited limit t (taskOf t (callerOf t)))) t
 
+-- "and for a mutex the chain from the holder moves"
+unfoldable pub waits : Family → (o limit : ℕ) → Table → Table
+waits f o limit t = walk (f .holder t o) (blocked (f .state) o limit t)
+
+-- The answer of a wait for number o, with the answer where it is in use.
+abbrev pub waitAnswerOn : Family → (o block answer : ℕ) → Table → ℕ
+waitAnswerOn f o block answer t = byCaller t (onOne f o t (yesNo block answer))
+
 -- "outcome 0" of the caller, who takes the object at once
 unfoldable pub taken : Table → Table
 taken t = put (callerOf t) (withOutcome given (taskOf t (callerOf t))) t
@@ -51,6 +67,12 @@ abortAnswer q t = cond (not (hasWaiter q t)) nothingToUndo done
 unfoldable pub abort : ℕ → Table → Table
 abort q t = ended aborted (firstIn q t - 1) t
 
+unfoldable pub objectAbortAnswer : Family → ℕ → Table → ℕ
+objectAbortAnswer f o t = onOne f o t (abortAnswer (waitersOf f o) t)
+
+unfoldable pub objectAbort : Family → ℕ → Table → Table
+objectAbort f o t = abort (waitersOf f o) t
+
 -- ---- "Forced delete: the same for each waiter from the first, outcome 3, then the object goes"
 
 -- "unforced delete of an object with waiters"
@@ -59,3 +81,10 @@ deleteAnswer force q t = yesNo force (cond (eqb force 0 && hasWaiter q t) stillN
 
 abbrev pub emptied : ℕ → Table → Table
 emptied q t = endedAll taskCount objectDeleted q t
+
+unfoldable pub objectDeleteAnswer : Family → (o force : ℕ) → Table → ℕ
+objectDeleteAnswer f o force t = onOne f o t (deleteAnswer force (waitersOf f o) t)
+
+-- "its holder is recomputed and its chain moved"
+unfoldable pub objectDelete : Family → ℕ → Table → Table
+objectDelete f o t = walk (f .holder t o) (f .gone o (emptied (waitersOf f o) t))

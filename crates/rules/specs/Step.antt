@@ -8,8 +8,9 @@ use Rattle.rules.specs.Move.{chosen}
 use Rattle.rules.specs.Task.{createAnswer, create, deleteAnswer, delete, priorityAnswer, changePriority, suspendAnswer, suspend, resumeAnswer, resume}
 use Rattle.rules.specs.Time.{yieldAnswer, yield, delayAnswer, delay, delayResumeAnswer, delayResume}
 use Rattle.rules.specs.Lock.{lockAnswer, lock, unlockAnswer, unlock}
-use Rattle.rules.specs.Semaphore.{semaphoreCreateAnswer, semaphoreCreate, semaphoreDeleteAnswer, semaphoreDelete, semaphoreWaitAnswer, semaphoreWait, semaphorePostAnswer, semaphorePost, semaphoreAbortAnswer, semaphoreAbort}
-use Rattle.rules.specs.Mutex.{mutexCreateAnswer, mutexCreate, mutexDeleteAnswer, mutexDelete, mutexWaitAnswer, mutexWait, mutexPostAnswer, mutexPost, mutexAbortAnswer, mutexAbort}
+use Rattle.rules.specs.Object.{objectCreateAnswer, objectDeleteAnswer, objectDelete, objectAbortAnswer, objectAbort}
+use Rattle.rules.specs.Semaphore.{semaphores, semaphoreCreate, semaphoreWaitAnswer, semaphoreWait, semaphorePostAnswer, semaphorePost}
+use Rattle.rules.specs.Mutex.{mutexes, mutexCreate, mutexWaitAnswer, mutexWait, mutexPostAnswer, mutexPost}
 use Rattle.rules.specs.Tick.{ticked}
 use Rattle.rules.specs.Sound.{isSound}
 use Rattle.rules.specs.declared.Call.{Call}
@@ -28,16 +29,16 @@ answerTo (DelayResume i) t = delayResumeAnswer i t
 answerTo Lock t = lockAnswer t
 answerTo Unlock t = unlockAnswer t
 answerTo Tick t = done
-answerTo (SemaphoreCreate s n) t = semaphoreCreateAnswer s t
-answerTo (SemaphoreDelete s force) t = semaphoreDeleteAnswer s force t
+answerTo (SemaphoreCreate s n) t = objectCreateAnswer semaphores s t
+answerTo (SemaphoreDelete s force) t = objectDeleteAnswer semaphores s force t
 answerTo (SemaphoreWait s block limit) t = semaphoreWaitAnswer s block t
 answerTo (SemaphorePost s) t = semaphorePostAnswer s t
-answerTo (SemaphoreAbort s) t = semaphoreAbortAnswer s t
-answerTo (MutexCreate m) t = mutexCreateAnswer m t
-answerTo (MutexDelete m force) t = mutexDeleteAnswer m force t
+answerTo (SemaphoreAbort s) t = objectAbortAnswer semaphores s t
+answerTo (MutexCreate m) t = objectCreateAnswer mutexes m t
+answerTo (MutexDelete m force) t = objectDeleteAnswer mutexes m force t
 answerTo (MutexWait m block limit) t = mutexWaitAnswer m block t
 answerTo (MutexPost m) t = mutexPostAnswer m t
-answerTo (MutexAbort m) t = mutexAbortAnswer m t
+answerTo (MutexAbort m) t = objectAbortAnswer mutexes m t
 
 -- What it changes.
 unfoldable pub changeBy : Call → Table → Table
@@ -53,15 +54,15 @@ changeBy Lock t = lock t
 changeBy Unlock t = unlock t
 changeBy Tick t = ticked t
 changeBy (SemaphoreCreate s n) t = semaphoreCreate s n t
-changeBy (SemaphoreDelete s force) t = semaphoreDelete s t
+changeBy (SemaphoreDelete s force) t = objectDelete semaphores s t
 changeBy (SemaphoreWait s block limit) t = semaphoreWait s limit t
 changeBy (SemaphorePost s) t = semaphorePost s t
-changeBy (SemaphoreAbort s) t = semaphoreAbort s t
+changeBy (SemaphoreAbort s) t = objectAbort semaphores s t
 changeBy (MutexCreate m) t = mutexCreate m t
-changeBy (MutexDelete m force) t = mutexDelete m t
+changeBy (MutexDelete m force) t = objectDelete mutexes m t
 changeBy (MutexWait m block limit) t = mutexWait m limit t
 changeBy (MutexPost m) t = mutexPost m t
-changeBy (MutexAbort m) t = mutexAbort m t
+changeBy (MutexAbort m) t = objectAbort mutexes m t
 
 -- "made by an interrupt, and not a tick or a semaphore post": 5
 unfoldable pub forInterrupts : Call → Bool

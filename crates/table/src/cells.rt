@@ -171,10 +171,25 @@ pub fn get_semaphore(s: &[u8], i: usize) -> rules::Semaphore
     }
 }
 
+// The record of semaphore i; that of a free number where i is no semaphore's.
+pub fn semaphore_at(s: &[u8], i: usize) -> rules::Semaphore
+    requires { ⌜ Image (now s) ⌝ }
+    ensures { λ r. ⌜ r ≡ semaphoreOf (view (now (s .entry))) i ⌝ }
+{
+    if i < 16 {
+        return get_semaphore(s, i);
+    }
+    rules::Semaphore { used: 0, count: 0 }
+}
+
+// A number that is no semaphore's changes nothing.
 pub fn set_semaphore(s: &mut [u8], i: usize, x: rules::Semaphore)
-    requires { ⌜ (i < 16) × Image (now s) ⌝ }
+    requires { ⌜ Image (now s) ⌝ }
     ensures { λ _. ⌜ view (now (s .exit)) ≡ withSemaphore i x (view (now (s .entry))) ⌝ }
 {
+    if 16 <= i {
+        return;
+    }
     let a = 512 + i * 5;
     let e = a + 5;
     write_semaphore(&mut s[a..e], x);
@@ -216,10 +231,14 @@ pub fn mutex_at(s: &[u8], i: usize) -> rules::Mutex
     }
 }
 
+// A number that is no mutex's changes nothing.
 pub fn set_mutex(s: &mut [u8], i: usize, x: rules::Mutex)
-    requires { ⌜ (i < 16) × Image (now s) ⌝ }
+    requires { ⌜ Image (now s) ⌝ }
     ensures { λ _. ⌜ view (now (s .exit)) ≡ withMutex i x (view (now (s .entry))) ⌝ }
 {
+    if 16 <= i {
+        return;
+    }
     let a = 592 + i * 3;
     let e = a + 3;
     write_mutex(&mut s[a..e], x);

@@ -170,11 +170,14 @@ pub fn rotate_task(s: &mut [u8], i: usize)
     rotate_in(s, i);
 }
 
-// The task in front of queue q: its number plus 1, 0 where the queue is empty.
+// The task in front of queue q: its number plus 1, 0 where the queue is empty or there is none.
 pub fn first_in(s: &[u8], q: usize) -> u8
-    requires { ⌜ (q < 33) × Image (now s) ⌝ }
+    requires { ⌜ Image (now s) ⌝ }
     ensures { λ r. ⌜ r ≡ firstIn q (view (now (s .entry))) ⌝ }
 {
+    if 33 <= q {
+        return 0;
+    }
     s[640 + q * 32]
 }
 

@@ -24,7 +24,7 @@ loop-holds : tie.Need-loop-holds Inv-loop μ-loop
 loop-holds c = (omega arith, refl, refl)
 
 first-in-requires : tie.Need-first-in-requires Inv-loop μ-loop
-first-in-requires c κs = (c .before .before .before .before .pre .0, c .before .before .loop .inv .1 ∙ c .before .before .before .before .pre .1)
+first-in-requires c κs = c .before .before .loop .inv .1 ∙ c .before .before .before .before .pre
 
 same-length : tie.Need-same-length Inv-loop μ-loop
 same-length c = c .before .before .before .before .loop .inv .1
@@ -42,7 +42,7 @@ sub-end-wait : tie.Need-sub-end-wait Inv-loop μ-loop
 sub-end-wait c = search needs
 
 end-wait-requires : tie.Need-end-wait-requires Inv-loop μ-loop
-end-wait-requires c κs = c .before .before .before .before .before .loop .inv .1 ∙ c .before .before .before .before .before .before .before .pre .1
+end-wait-requires c κs = c .before .before .before .before .before .loop .inv .1 ∙ c .before .before .before .before .before .before .before .pre
 
 sub-left : tie.Need-sub-left Inv-loop μ-loop
 sub-left c = omega arith

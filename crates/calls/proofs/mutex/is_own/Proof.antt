@@ -4,10 +4,10 @@ use Rattle.calls.proofs.mutex.is_own.Tie as tie
 use Rattle.calls.proofs.mutex.is_own.Reads as reads
 use Rattle.calls.proofs.mutex.is_own.Lts as lts
 use Rattle.calls.proofs.time.caller_of.Reads as caller-of-reads
-use Rattle.table.proofs.cells.get_mutex.Reads as get-mutex-reads
+use Rattle.table.proofs.cells.mutex_at.Reads as mutex-at-reads
 
-get-mutex-requires : tie.Need-get-mutex-requires
-get-mutex-requires c κs = search needs
+mutex-at-requires : tie.Need-mutex-at-requires
+mutex-at-requires c κs = search needs
 
 caller-of-requires : tie.Need-caller-of-requires
 caller-of-requires c κs = search needs
@@ -23,4 +23,4 @@ returns c = cc
 
 pub is-own-spec : {M : Type 1} → statement M
 is-own-spec =
-    tie.close (tie.spec get-mutex-requires caller-of-requires cast-result add-result returns)
+    tie.close (tie.spec mutex-at-requires caller-of-requires cast-result add-result returns)

@@ -7,11 +7,11 @@ use Rattle.calls.proofs.mutex.post_change.Reads as reads
 use Rattle.calls.proofs.mutex.post_change.Lts as lts
 use Rattle.calls.proofs.mutex.held_by.Reads as held-by-reads
 use Rattle.calls.proofs.mutex.release.Reads as release-reads
-use Rattle.table.proofs.cells.get_mutex.Reads as get-mutex-reads
+use Rattle.table.proofs.cells.mutex_at.Reads as mutex-at-reads
 use Rattle.table.proofs.cells.set_mutex.Reads as set-mutex-reads
 
-get-mutex-requires : tie.Need-get-mutex-requires
-get-mutex-requires c κs = search needs
+mutex-at-requires : tie.Need-mutex-at-requires
+mutex-at-requires c κs = search needs
 
 sub-held-by : tie.Need-sub-held-by
 sub-held-by c = search needs
@@ -30,7 +30,7 @@ returns c =
     let e = c .before .before .before .before .before .before in
     let g = e .before .before in
     let a = g .before .before .before .args in
-    cc (post-keeps (a .i) (view (a .s .now)) (rw (g .get-mutex .ensures) at (e .if1 .taken)))
+    cc (post-keeps (a .i) (view (a .s .now)) (rw (g .mutex-at .ensures) at (e .if1 .taken)))
 
 release-requires : tie.Need-release-requires
 release-requires c κs = search needs
@@ -43,13 +43,13 @@ returns-2 c =
     let e = c .before .before .before .before in
     let g = e .before .before in
     let a = g .before .before .before .args in
-    cc (post-goes (a .i) (view (a .s .now)) (rw (g .get-mutex .ensures) at (e .if1 .left)))
+    cc (post-goes (a .i) (view (a .s .now)) (rw (g .mutex-at .ensures) at (e .if1 .left)))
 
 pub post-change-spec : {M : Type 1} → statement M
 post-change-spec =
     tie.close
     (tie.spec
-    get-mutex-requires
+    mutex-at-requires
     sub-held-by
     held-by-requires
     set-mutex-requires

@@ -6,13 +6,13 @@ use Rattle.calls.proofs.mutex.take_answer.Reads as reads
 use Rattle.calls.proofs.mutex.take_answer.Lts as lts
 use Rattle.calls.proofs.mutex.is_own.Reads as is-own-reads
 use Rattle.calls.proofs.object.wait_answer.Reads as wait-answer-reads
-use Rattle.table.proofs.cells.get_mutex.Reads as get-mutex-reads
+use Rattle.table.proofs.cells.mutex_at.Reads as mutex-at-reads
 
-get-mutex-requires : tie.Need-get-mutex-requires
-get-mutex-requires c κs = search needs
+mutex-at-requires : tie.Need-mutex-at-requires
+mutex-at-requires c κs = search needs
 
 returns : tie.Need-returns
-returns c = rw (← c .before .before .get-mutex .ensures, eq-eqb _ _ (c .if1 .taken))
+returns c = rw (← c .before .before .mutex-at .ensures, eq-eqb _ _ (c .if1 .taken))
 
 is-own-requires : tie.Need-is-own-requires
 is-own-requires c κs = search needs
@@ -23,25 +23,25 @@ wait-answer-requires c κs = search needs
 returns-2 : tie.Need-returns-2
 returns-2 c =
     let o = c .before .before in
-    rw (← o .is-own .ensures, ← o .before .before .before .get-mutex .ensures, ne-eqb _ _ (o .before .if1 .left), not-true (o .is-own .result) (c .before .if2 .taken)) (c .wait-answer .ensures)
+    rw (← o .is-own .ensures, ← o .before .before .before .mutex-at .ensures, ne-eqb _ _ (o .before .if1 .left), not-true (o .is-own .result) (c .before .if2 .taken)) (c .wait-answer .ensures)
 
 returns-3 : tie.Need-returns-3
 returns-3 c =
     let e = c .before .before in
     let o = e .before in
-    rw (← o .is-own .ensures, ← o .before .before .before .get-mutex .ensures, ne-eqb _ _ (o .before .if1 .left), not-false (o .is-own .result) (e .if2 .left), le-leb _ _ (c .if3 .taken))
+    rw (← o .is-own .ensures, ← o .before .before .before .mutex-at .ensures, ne-eqb _ _ (o .before .if1 .left), not-false (o .is-own .result) (e .if2 .left), le-leb _ _ (c .if3 .taken))
 
 returns-4 : tie.Need-returns-4
 returns-4 c =
     let e = c .before .before in
     let o = e .before in
-    rw (← o .is-own .ensures, ← o .before .before .before .get-mutex .ensures, ne-eqb _ _ (o .before .if1 .left), not-false (o .is-own .result) (e .if2 .left), lt-leb _ _ (c .if3 .left))
+    rw (← o .is-own .ensures, ← o .before .before .before .mutex-at .ensures, ne-eqb _ _ (o .before .if1 .left), not-false (o .is-own .result) (e .if2 .left), lt-leb _ _ (c .if3 .left))
 
 pub take-answer-spec : {M : Type 1} → statement M
 take-answer-spec =
     tie.close
     (tie.spec
-    get-mutex-requires
+    mutex-at-requires
     returns
     is-own-requires
     wait-answer-requires

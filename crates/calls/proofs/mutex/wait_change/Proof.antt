@@ -12,10 +12,10 @@ use Rattle.calls.proofs.mutex.is_own.Reads as is-own-reads
 use Rattle.calls.proofs.mutex.take_mutex.Reads as take-mutex-reads
 use Rattle.calls.proofs.mutex.wait_for.Reads as wait-for-reads
 use Rattle.calls.proofs.time.caller_of.Reads as caller-of-reads
-use Rattle.table.proofs.cells.get_mutex.Reads as get-mutex-reads
+use Rattle.table.proofs.cells.mutex_at.Reads as mutex-at-reads
 
-get-mutex-requires : tie.Need-get-mutex-requires
-get-mutex-requires c κs = search needs
+mutex-at-requires : tie.Need-mutex-at-requires
+mutex-at-requires c κs = search needs
 
 caller-of-requires : tie.Need-caller-of-requires
 caller-of-requires c κs = search needs
@@ -37,7 +37,7 @@ returns c =
     let e = c .before .before .before .before .before .before in
     let g = e .before .before in
     let a = g .before .before .before .args in
-    cc (wait-takes (a .i) (view (a .s .now)) (a .limit) (rw (g .get-mutex .ensures) at (e .if1 .taken)))
+    cc (wait-takes (a .i) (view (a .s .now)) (a .limit) (rw (g .mutex-at .ensures) at (e .if1 .taken)))
 
 is-own-requires : tie.Need-is-own-requires
 is-own-requires c κs = search needs
@@ -49,8 +49,8 @@ add-take-mutex-2 c =
     let e = o .before .before in
     let g = e .before .before in
     let s = g .before .before .before in
-    let same = g .get-mutex .ensures in
-    let room : g .get-mutex .result .nesting < 250 = rw same (s .pre .2 (sym (o .is-own .ensures) ∙ t .if2 .taken) (rw same at (e .if1 .left))) in
+    let same = g .mutex-at .ensures in
+    let room : g .mutex-at .result .nesting < 250 = rw same (s .pre .2 (sym (o .is-own .ensures) ∙ t .if2 .taken) (rw same at (e .if1 .left))) in
     omega arith
 
 take-mutex-requires-2 : tie.Need-take-mutex-requires-2
@@ -66,7 +66,7 @@ returns-2 c =
     let e = o .before .before in
     let g = e .before .before in
     let a = g .before .before .before .args in
-    cc (wait-nests (a .i) (view (a .s .now)) (a .limit) (rw (g .get-mutex .ensures) at (e .if1 .left)) (sym (o .is-own .ensures) ∙ t .if2 .taken))
+    cc (wait-nests (a .i) (view (a .s .now)) (a .limit) (rw (g .mutex-at .ensures) at (e .if1 .left)) (sym (o .is-own .ensures) ∙ t .if2 .taken))
 
 wait-for-requires : tie.Need-wait-for-requires
 wait-for-requires c κs = search needs
@@ -81,13 +81,13 @@ returns-3 c =
     let e = o .before .before in
     let g = e .before .before in
     let a = g .before .before .before .args in
-    c .before .before .wait-for .ensures ∙ wait-blocks (a .i) (view (a .s .now)) (a .limit) (rw (g .get-mutex .ensures) at (e .if1 .left)) (sym (o .is-own .ensures) ∙ t .if2 .left)
+    c .before .before .wait-for .ensures ∙ wait-blocks (a .i) (view (a .s .now)) (a .limit) (rw (g .mutex-at .ensures) at (e .if1 .left)) (sym (o .is-own .ensures) ∙ t .if2 .left)
 
 pub wait-change-spec : {M : Type 1} → statement M
 wait-change-spec =
     tie.close
     (tie.spec
-    get-mutex-requires
+    mutex-at-requires
     caller-of-requires
     cast-take-mutex
     add-take-mutex

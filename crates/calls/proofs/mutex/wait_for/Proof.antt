@@ -1,3 +1,4 @@
+use Rattle.rules.specs.Object.{waits}
 use borrow.Author.Needs.{needs}
 use Rattle.calls.proofs.mutex.wait_for.Statement.{statement}
 use Rattle.calls.proofs.mutex.wait_for.Tie as tie
@@ -23,6 +24,7 @@ same-length : tie.Need-same-length
 same-length c = search needs
 
 returns : tie.Need-returns
+unfolding waits
 returns c = cc
 
 pub wait-for-spec : {M : Type 1} → statement M

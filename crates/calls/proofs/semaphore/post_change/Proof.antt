@@ -10,8 +10,11 @@ use Rattle.calls.proofs.semaphore.post_change.Lts as lts
 use Rattle.calls.proofs.ending.end_wait.Reads as end-wait-reads
 use Rattle.calls.proofs.object.first_task.Reads as first-task-reads
 use Rattle.calls.proofs.object.has_waiter.Reads as has-waiter-reads
-use Rattle.table.proofs.cells.get_semaphore.Reads as get-semaphore-reads
+use Rattle.table.proofs.cells.semaphore_at.Reads as semaphore-at-reads
 use Rattle.table.proofs.cells.set_semaphore.Reads as set-semaphore-reads
+
+semaphore-at-requires : tie.Need-semaphore-at-requires
+semaphore-at-requires c κs = search needs
 
 add-has-waiter : tie.Need-add-has-waiter
 add-has-waiter c = search needs
@@ -37,11 +40,8 @@ returns c =
     let b = c .before .before .before .before .before .before in
     rw (← b .before .has-waiter .ensures, b .if1 .taken) (cc)
 
-get-semaphore-requires : tie.Need-get-semaphore-requires
-get-semaphore-requires c κs = search needs
-
 add-t20 : tie.Need-add-t20
-add-t20 c = omega (arith, ap (λ (x : Semaphore). x .count) (c .before .before .get-semaphore .ensures))
+add-t20 c = omega (arith, ap (λ (x : Semaphore). x .count) (c .before .before .before .before .before .semaphore-at .ensures))
 
 set-semaphore-requires : tie.Need-set-semaphore-requires
 set-semaphore-requires c κs = search needs
@@ -52,13 +52,14 @@ same-length-2 c = search needs
 returns-2 : tie.Need-returns-2
 unfolding semaphorePost
 returns-2 c =
-    let b = c .before .before .before .before .before .before .before in
+    let b = c .before .before .before .before .before in
     rw (← b .before .has-waiter .ensures, b .if1 .left) (cc)
 
 pub post-change-spec : {M : Type 1} → statement M
 post-change-spec =
     tie.close
     (tie.spec
+    semaphore-at-requires
     add-has-waiter
     has-waiter-requires
     add-first-task
@@ -66,7 +67,6 @@ post-change-spec =
     end-wait-requires
     same-length
     returns
-    get-semaphore-requires
     add-t20
     set-semaphore-requires
     same-length-2

@@ -1,3 +1,5 @@
+use Rattle.rules.specs.Walk.{walkOn}
+use Rattle.rules.specs.Object.{waits}
 use borrow.Author.Tests.{lt-ltb, le-ltb}
 use Rattle.rules.specs.Semaphore.{semaphoreWait}
 use borrow.Author.Needs.{needs}
@@ -7,11 +9,11 @@ use Rattle.calls.proofs.semaphore.wait_change.Reads as reads
 use Rattle.calls.proofs.semaphore.wait_change.Lts as lts
 use Rattle.calls.proofs.object.block_on.Reads as block-on-reads
 use Rattle.calls.proofs.object.take_now.Reads as take-now-reads
-use Rattle.table.proofs.cells.get_semaphore.Reads as get-semaphore-reads
+use Rattle.table.proofs.cells.semaphore_at.Reads as semaphore-at-reads
 use Rattle.table.proofs.cells.set_semaphore.Reads as set-semaphore-reads
 
-get-semaphore-requires : tie.Need-get-semaphore-requires
-get-semaphore-requires c κs = search needs
+semaphore-at-requires : tie.Need-semaphore-at-requires
+semaphore-at-requires c κs = search needs
 
 sub-t11 : tie.Need-sub-t11
 sub-t11 c = search needs
@@ -29,7 +31,7 @@ returns : tie.Need-returns
 unfolding semaphoreWait
 returns c =
     let b = c .before .before .before .before .before .before .before .before .before in
-    rw (rw (b .before .before .get-semaphore .ensures) at (lt-ltb _ _ (b .if1 .taken))) (cc)
+    rw (rw (b .before .before .semaphore-at .ensures) at (lt-ltb _ _ (b .if1 .taken))) (cc)
 
 cast-block-on : tie.Need-cast-block-on
 cast-block-on c = search needs
@@ -41,16 +43,16 @@ same-length-2 : tie.Need-same-length-2
 same-length-2 c = search needs
 
 returns-2 : tie.Need-returns-2
-unfolding semaphoreWait
+unfolding semaphoreWait waits walkOn
 returns-2 c =
     let b = c .before .before .before .before in
-    rw (rw (b .before .before .get-semaphore .ensures) at (le-ltb _ _ (b .if1 .left))) (cc)
+    rw (rw (b .before .before .semaphore-at .ensures) at (le-ltb _ _ (b .if1 .left))) (cc)
 
 pub wait-change-spec : {M : Type 1} → statement M
 wait-change-spec =
     tie.close
     (tie.spec
-    get-semaphore-requires
+    semaphore-at-requires
     sub-t11
     set-semaphore-requires
     take-now-requires

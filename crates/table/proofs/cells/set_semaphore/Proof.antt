@@ -1,7 +1,10 @@
 use mathlib.Core.Path.{ap, _∙_}
 use mathlib.Core.List.{List}
-use Prim.Native.Nat.{ℕ, _+_, _-_}
+use Prim.Native.Nat.{ℕ, _+_, _-_, _≤_}
 use native.Mathlib.Omega.{arith}
+use lib.ListN.{length}
+use lib.Seq.{set-out}
+use Rattle.table.specs.Shape.{view-shaped}
 use borrow.Rule.Slice.PartMut.{putMid}
 use Rattle.table.specs.Image.{semaphoreAt, semaphoreCell, view}
 use Rattle.table.proofs.Changes.{put-lent}
@@ -12,6 +15,12 @@ use Rattle.table.proofs.cells.set_semaphore.Tie as tie
 use Rattle.table.proofs.cells.set_semaphore.Reads as reads
 use Rattle.table.proofs.cells.set_semaphore.Lts as lts
 use Rattle.table.proofs.cells.write_semaphore.Reads as write-semaphore-reads
+
+returns : tie.Need-returns
+returns c =
+    let a = c .before .before .args in
+    let h : length (view (a .s .now) .semaphores) ≤ a .i = omega (arith, view-shaped (a .s .now) (omega arith) .semaphores) in
+    rw (set-out (view (a .s .now) .semaphores) (a .i) (a .x) h)
 
 mul-a : tie.Need-mul-a
 mul-a c = search needs
@@ -37,9 +46,9 @@ write-semaphore-requires c κs = search needs
 same-length : tie.Need-same-length
 same-length c = search needs
 
-returns : tie.Need-returns
-returns c =
-    let a = c .before .before .before .before .before .args in
+returns-2 : tie.Need-returns-2
+returns-2 c =
+    let a = c .before .before .before .before .before .before .args in
     ap (λ (ys : List ℕ). view (putMid (semaphoreAt (a .i)) (semaphoreAt (a .i) + 5 - semaphoreAt (a .i)) (a .s .now) ys)) (c .before .before .write-semaphore .ensures .0)
     ∙ ap view (put-lent (semaphoreAt (a .i)) 5 (a .s .now) (semaphoreCell (a .x)))
     ∙ store-semaphore (a .s .now) (a .i) (a .x) (omega arith) (omega arith) (c .before .before .write-semaphore .ensures .1)
@@ -48,6 +57,7 @@ pub set-semaphore-spec : {M : Type 1} → statement M
 set-semaphore-spec =
     tie.close
     (tie.spec
+    returns
     mul-a
     add-a
     add-e
@@ -56,4 +66,4 @@ set-semaphore-spec =
     part-write-semaphore-end
     write-semaphore-requires
     same-length
-    returns)
+    returns-2)
