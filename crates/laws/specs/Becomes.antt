@@ -43,14 +43,14 @@ pub becomes-as : {i : ℕ} {k : Task} {t u : Table} (x : Task) → bare k ≡ ba
 becomes-as x e b = record { itself = b .itself ∙ e; others = b .others; rests = b .rests; size = b .size }
 
 -- A table where the groups hold, and with the same tick and depth, is settled too.
-pub framed-settled : {t u : Table} → Settled t → frame u ≡ frame t → Queued u → WorkedOut u → TasksRight u → DelaysMarked u → (Queued u → ObjectsRight u) → Settled u
+pub framed-settled : {t u : Table} → Settled t → frame u ≡ frame t → Queued u → WorkedOut u → TasksRight u → DelaysMarked u → ObjectsRight u → Settled u
 framed-settled {t} {u} s e queued worked tasks delays objects =
     record {
       queued = queued;
       worked = worked;
       tasks = tasks;
       delays = delays;
-      objects = objects queued;
+      objects = objects;
       tick = omega (arith, ap (λ (x : Table). x .tick) e, s .tick);
       depth = omega (arith, ap (λ (x : Table). x .depth) e, s .depth);
     }

@@ -3,10 +3,9 @@ use mathlib.Core.Path.{_≡_, refl, sym, subst, _∙_}
 use mathlib.Core.Logic.{_⊎_, inl, inr, ⊎-elim, _≢_}
 use mathlib.Core.Bool.{Bool, true, false, cond, not}
 use Prim.Native.Nat.{ℕ, _+_, _-_, _≤_, _<_}
-use native.Mathlib.Decide.{ℕ-discrete}
 use native.Mathlib.Omega.{arith}
 use lib.Dec.{eqb, ltb}
-use borrow.Author.Tests.{eqb-true, eqb-false, ltb-true, ltb-false}
+use borrow.Author.Tests.{eq-eqb, eqb-true, eqb-false, ltb-true, ltb-false}
 use Rattle.rules.specs.Sizes.{taskCount, semaphoreCount, mutexCount, mostNested, mostCount, ticksRound, waitsMutex, given, aborted}
 use Rattle.rules.specs.Table.{Table, taskOf, semaphoreOf, mutexOf, queueCount, ableQueue, semaphoreQueue, firstIn, isAble, written, counting, heldBy, withSemaphore, withMutex}
 use Rattle.rules.specs.Move.{ended}
@@ -19,7 +18,7 @@ use Rattle.rules.specs.Mutex.{mutexes, released, mutexCreate, mutexWait, mutexP
 use Rattle.rules.specs.Step.{changeBy, Bounded}
 use Rattle.rules.specs.declared.Call.{Call}
 use Rattle.rules.specs.declared.Call.the-variants.{TaskCreate, TaskDelete, ChangePriority, Suspend, Resume, Yield, Delay, DelayResume, Lock, Unlock, Tick, SemaphoreCreate, SemaphoreDelete, SemaphoreWait, SemaphorePost, SemaphoreAbort, MutexCreate, MutexDelete, MutexWait, MutexPost, MutexAbort}
-use Rattle.laws.specs.Settled.{Settled, NotDue, sound-settled, sound-notDue, sound-runs, sized}
+use Rattle.laws.specs.Settled.{Settled, NotDue, sized}
 use Rattle.laws.specs.Graph.{held-alike}
 use Rattle.laws.specs.Becomes.{delay-becomes, caller, caller-used}
 use Rattle.laws.specs.Due.{create-due, delete-due, changePriority-due, suspend-due, resume-due, rotate-due, delay-due, taken-due, released-due}
@@ -27,10 +26,10 @@ use Rattle.laws.specs.Running.{RunsOn, right-on, caller-able, depth-runs
 use Rattle.laws.specs.Kept.{list-settled, create-settled, rotate-settled, delete-settled, changePriority-settled, suspend-settled, resume-settled, delay-settled, taken-settled, released-settled}
 use Rattle.laws.specs.Ending.{Unchosen, sound-unchosen, waiter-ended, first-waiter, ticked-unchosen}
 use Rattle.laws.specs.Accepted.{Accepted}
-use Rattle.laws.specs.Stands.{semaphore-unwaited, mutex-unwaited}
-use Rattle.laws.specs.Linked.{HeldApart}
+use Rattle.laws.specs.Stands.{semaphores-placed, mutexes-placed, unwaited, no-queue}
+use Rattle.laws.specs.Linked.{HeldApart, may-apart, awaited-may, apart-may}
 use Rattle.laws.specs.Objects.{unheld, held-right}
-use Rattle.laws.specs.Families.{stored-unchosen, linked, semaphore-stores, mutex-stores, unwaited, semaphores-lawful, mutexes-lawful, abort-keeps, delete-keeps, waits-keeps}
+use Rattle.laws.specs.Families.{stored-unchosen, semaphore-stores, mutex-stores, unwaited-mutex, semaphores-lawful, mutexes-lawful, abort-keeps, delete-keeps, waits-keeps}
 
 -- ---- parts of calls
 
@@ -54,13 +53,13 @@ module _ {t : Table} (h : Unchosen t) (l : callerOf t < taskCount) (a : isAble (
 module _ {t : Table} (s : Sound t) where
   -- What a sound table has.
   h : Settled t
-  h = sound-settled s
+  h = s .settled
 
   due : NotDue t
-  due = sound-notDue s
+  due = s .notDue
 
   runs : RunsOn t
-  runs = right-on (sound-runs s)
+  runs = right-on (s .runs)
 
   whole : Unchosen t
   whole = sound-unchosen s
@@ -70,23 +69,15 @@ module _ {t : Table} (s : Sound t) where
 
   -- Whoever runs is able.
   runs-able : t .running ≢ 0 → isAble (caller t) ≡ true
-  runs-able c = ⊎-elim (λ z. absurd (c z)) (λ a. a) (caller-able (h .queued) (sound-runs s))
+  runs-able c = ⊎-elim (λ z. absurd (c z)) (λ a. a) (caller-able (h .queued) (s .runs))
 
   -- ---- semaphores
-
-  -- Where there is something to take, nobody waits.
-  counted-empty : (o : ℕ) → o < semaphoreCount → semaphoreOf t o .count ≢ 0 → Empty (semaphoreQueue o) t
-  counted-empty o l c = go (ℕ-discrete (firstIn (semaphoreQueue o) t) 0)
-    where
-      go : Dec (Empty (semaphoreQueue o) t) → Empty (semaphoreQueue o) t
-      go (yes e) = e
-      go (no d) = absurd (c (h .objects .counts o l d))
 
   -- A semaphore for which nobody waits has another count.
   counting-unchosen : (o n : ℕ) → o < semaphoreCount → n ≤ mostCount → Empty (semaphoreQueue o) t → Unchosen (withSemaphore o (counting n) t)
   counting-unchosen o n l m z =
       stored-unchosen whole
-      (semaphore-stores h o (counting n) (record { used = omega arith; count = m; free = λ e. absurd (omega arith) }) (λ j k e x. absurd (semaphore-unwaited (h .queued) o l z j k e x)))
+      (semaphore-stores h o (counting n) (record { used = omega arith; count = m; free = λ e. absurd (omega arith) }) (λ j k e x. absurd (unwaited semaphores-placed (h .queued) o l z j k e x)))
 
   semaphoreWait-unchosen : (o limit : ℕ) → limit < ticksRound → t .running ≢ 0 → o < semaphoreCount → semaphoreOf t o .used ≡ 1 → (semaphoreOf t o .count ≡ 0 → t .depth ≡ 0)
       → Unchosen (semaphoreWait o limit t)
@@ -99,10 +90,10 @@ module _ {t : Table} (s : Sound t) where
       go : (b : Bool) → ltb 0 (semaphoreOf t o .count) ≡ b → Unchosen (cond b (taken less) (waits semaphores o limit t))
       go true e =
           let some : 0 < semaphoreOf t o .count = ltb-true 0 _ e in
-          taken-unchosen {t = less} (counting-unchosen o _ l (omega (arith, h .objects .semaphoreRanges o l .1)) (counted-empty o l (λ z. omega arith))) runner (runs-able c)
+          taken-unchosen {t = less} (counting-unchosen o _ l (omega (arith, h .objects .semaphores o l .count)) (no-queue semaphores-placed (h .queued) o l (h .tasks) (h .objects) (inr e))) runner (runs-able c)
       go false e =
           let none : semaphoreOf t o .count ≡ 0 = omega (arith, ltb-false 0 (semaphoreOf t o .count) e) in
-          waits-keeps semaphores-lawful whole o l limit most runner (runs-able c) (free none) (record { semaphore = λ e. record { used = u; count = none }; mutex = λ e. absurd (omega arith) })
+          waits-keeps semaphores-lawful whole o l limit most runner (runs-able c) (free none) (record { semaphore = λ e. awaited-may t _ o runner (record { used = u; count = none }); mutex = λ e. absurd (omega arith) })
 
   semaphorePost-unchosen : (o : ℕ) → o < semaphoreCount → semaphoreOf t o .count < mostCount → Unchosen (semaphorePost o t)
   unfolding semaphorePost
@@ -124,10 +115,10 @@ module _ {t : Table} (s : Sound t) where
   held-unchosen m v n l d r some most u was =
       stored-unchosen whole
       (mutex-stores h m (heldBy v n) (held-right v n d r some most) (λ j k e x. apart (waiter j k e x) was) (λ e. u)
-      (⊎-elim (λ z. unwaited h m (heldBy v n) l (h .objects .freeMutexes m l z .1)) (λ e. held-alike m (heldBy v n) t (sym e)) was))
+      (⊎-elim (λ z. unwaited-mutex h m (heldBy v n) l (no-queue mutexes-placed (h .queued) m l (h .tasks) (h .objects) (inr (eq-eqb _ 0 z)))) (λ e. held-alike m (heldBy v n) t (sym e)) was))
     where
       waiter : (j : ℕ) → j < taskCount → taskOf t j .state ≡ waitsMutex → taskOf t j .object ≡ m → HeldApart j (mutexOf t m)
-      waiter j k e x = subst (λ (i : ℕ). HeldApart j (mutexOf t i)) x (linked h .waits j k .mutex e)
+      waiter j k e x = subst (λ (i : ℕ). HeldApart j (mutexOf t i)) x (may-apart t j _ k (h .objects .waits j k .mutex e))
 
       apart : {j : ℕ} → HeldApart j (mutexOf t m) → (mutexOf t m .holder ≡ 0) ⊎ (mutexOf t m .holder ≡ v) → HeldApart j (heldBy v n)
       apart w (inl z) = absurd (w .held z)
@@ -155,13 +146,13 @@ module _ {t : Table} (s : Sound t) where
         go false e true f =
             let held : mutexOf t m .holder ≢ 0 = eqb-false _ _ e in
             taken-unchosen {t = again}
-            (held-unchosen m _ _ l held (h .objects .mutexRanges m l .1) (omega arith) (omega (arith, room (eqb-true _ _ f))) (h .objects .holdersInUse m l held) (inr refl))
+            (held-unchosen m _ _ l held (h .objects .mutexes m l .holder) (omega arith) (omega (arith, room (eqb-true _ _ f))) (h .objects .holders m l held) (inr refl))
             runner (runs-able c)
         go false e false f =
             let held : mutexOf t m .holder ≢ 0 = eqb-false _ _ e in
             let other : mutexOf t m .holder ≢ written (callerOf t) = eqb-false _ _ f in
             waits-keeps mutexes-lawful whole m l limit most runner (runs-able c) (free held other)
-            (record { semaphore = λ e. absurd (omega arith); mutex = λ e. record { used = u; held = held; apart = other } })
+            (record { semaphore = λ e. absurd (omega arith); mutex = λ e. apart-may t _ m (record { used = u; held = held; apart = other }) })
 
     mutexPost-unchosen : mutexOf t m .holder ≡ written (callerOf t) → Unchosen (mutexPost m t)
     unfolding mutexPost
@@ -174,7 +165,7 @@ module _ {t : Table} (s : Sound t) where
         go true e =
             let some : 1 < mutexOf t m .nesting = ltb-true 1 _ e in
             let held : mutexOf t m .holder ≢ 0 = λ z. omega arith in
-            held-unchosen m _ _ l held (h .objects .mutexRanges m l .1) (omega arith) (omega (arith, h .objects .mutexRanges m l .2)) (h .objects .holdersInUse m l held) (inr refl)
+            held-unchosen m _ _ l held (h .objects .mutexes m l .holder) (omega arith) (omega (arith, h .objects .mutexes m l .nesting)) (h .objects .holders m l held) (inr refl)
         go false e =
             record {
               settled = released-settled h runner (runs-able c) m l u own;
@@ -233,25 +224,25 @@ module _ {t : Table} (s : Sound t) where
       record {
         settled = list-settled h (t .tick) (t .depth + 1) (t .running) (h .tick) (omega arith);
         notDue = due;
-        runs = depth-runs (h .queued) (sound-runs s) (t .depth + 1);
+        runs = depth-runs (h .queued) (s .runs) (t .depth + 1);
       }
   change-unchosen Unlock b n =
       record {
         settled = list-settled h (t .tick) (t .depth - 1) (t .running) (h .tick) (omega (arith, h .depth));
         notDue = due;
-        runs = depth-runs (h .queued) (sound-runs s) (t .depth - 1);
+        runs = depth-runs (h .queued) (s .runs) (t .depth - 1);
       }
   change-unchosen Tick b n = ticked-unchosen s
   change-unchosen (SemaphoreCreate o n) b (l, u) =
-      counting-unchosen o n l (omega arith) (h .objects .freeSemaphores o l (omega (arith, h .objects .semaphoreRanges o l .0)) .1)
+      counting-unchosen o n l (omega arith) (no-queue semaphores-placed (h .queued) o l (h .tasks) (h .objects) (inl u))
   change-unchosen (SemaphoreDelete o force) b l = delete-keeps semaphores-lawful whole o l
   change-unchosen (SemaphoreWait o block limit) b (c, l, u, free) = semaphoreWait-unchosen o limit b c l u free
   change-unchosen (SemaphorePost o) b (l, n) = semaphorePost-unchosen o l n
   change-unchosen (SemaphoreAbort o) b (l, some) = abort-keeps semaphores-lawful whole o l some
   change-unchosen (MutexCreate m) b (l, u) =
-      let z = h .objects .freeNumbers m l (omega (arith, h .objects .mutexRanges m l .0)) in
+      let z = no-queue mutexes-placed (h .queued) m l (h .tasks) (h .objects) (inl u) in
       stored-unchosen whole
-      (mutex-stores h m (heldBy 0 0) unheld (λ j k e x. absurd (mutex-unwaited (h .queued) m l (z .1) j k e x)) (λ d. absurd (d refl)) (unwaited h m (heldBy 0 0) l (z .1)))
+      (mutex-stores h m (heldBy 0 0) unheld (λ j k e x. absurd (unwaited mutexes-placed (h .queued) m l z j k e x)) (λ d. absurd (d refl)) (unwaited-mutex h m (heldBy 0 0) l z))
   change-unchosen (MutexDelete m force) b l = delete-keeps mutexes-lawful whole m l
   change-unchosen (MutexWait m block limit) b (c, l, u, room, free) = mutexWait-unchosen m c l u limit b room free
   change-unchosen (MutexPost m) b (c, l, u, own) = mutexPost-unchosen m c l u own

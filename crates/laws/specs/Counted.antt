@@ -70,7 +70,7 @@ module _ {t : Table} (s : Sound t) where
       let l : m < mutexCount = accepted c s e .1 in
       part c s e (λ u. mutexOf u m .nesting) (λ u w. refl)
       ∙ rw (ne-eqb (mutexOf t m .holder) 0 (λ z. omega arith), eq-eqb (mutexOf t m .holder) (written (callerOf t)) own)
-      (ap (λ (u : Table). mutexOf u m .nesting) (taken-rest (withMutex m x t)) ∙ ap (λ y. y .nesting) (getD-set-same (t .mutexes) m x noMutex (omega (arith, s .shaped .mutexes))))
+      (ap (λ (u : Table). mutexOf u m .nesting) (taken-rest (withMutex m x t)) ∙ ap (λ y. y .nesting) (getD-set-same (t .mutexes) m x noMutex (omega (arith, s .settled .queued .shaped .mutexes))))
 
   -- A post of a nested mutex takes 1 from it.
   pub post-nesting : (m : ℕ) → 1 < mutexOf t m .nesting → step (MutexPost m) false t .answer ≡ done
@@ -82,7 +82,7 @@ module _ {t : Table} (s : Sound t) where
       let l : m < mutexCount = accepted c s e .1 in
       part c s e (λ u. mutexOf u m .nesting) (λ u w. refl)
       ∙ rw (lt-ltb 1 (mutexOf t m .nesting) n)
-      (ap (λ y. y .nesting) (getD-set-same (t .mutexes) m x noMutex (omega (arith, s .shaped .mutexes))))
+      (ap (λ y. y .nesting) (getD-set-same (t .mutexes) m x noMutex (omega (arith, s .settled .queued .shaped .mutexes))))
 
   -- A wait that takes a semaphore takes 1 from its count.
   pub wait-count : (o block limit : ℕ) → 0 < semaphoreOf t o .count → step (SemaphoreWait o block limit) false t .answer ≡ done
@@ -94,7 +94,7 @@ module _ {t : Table} (s : Sound t) where
       let l : o < semaphoreCount = accepted c s e .1 in
       part c s e (λ u. semaphoreOf u o .count) (λ u w. refl)
       ∙ rw (lt-ltb 0 (semaphoreOf t o .count) n)
-      (ap (λ (u : Table). semaphoreOf u o .count) (taken-rest (withSemaphore o x t)) ∙ ap (λ y. y .count) (getD-set-same (t .semaphores) o x noSemaphore (omega (arith, s .shaped .semaphores))))
+      (ap (λ (u : Table). semaphoreOf u o .count) (taken-rest (withSemaphore o x t)) ∙ ap (λ y. y .count) (getD-set-same (t .semaphores) o x noSemaphore (omega (arith, s .settled .queued .shaped .semaphores))))
 
   -- A post without a waiter adds 1 to it.
   pub post-count : (o : ℕ) → Empty (semaphoreQueue o) t → step (SemaphorePost o) false t .answer ≡ done
@@ -106,4 +106,4 @@ module _ {t : Table} (s : Sound t) where
       let l : o < semaphoreCount = accepted c s e .0 in
       part c s e (λ u. semaphoreOf u o .count) (λ u w. refl)
       ∙ rw (eq-eqb _ 0 z)
-      (ap (λ y. y .count) (getD-set-same (t .semaphores) o x noSemaphore (omega (arith, s .shaped .semaphores))))
+      (ap (λ y. y .count) (getD-set-same (t .semaphores) o x noSemaphore (omega (arith, s .settled .queued .shaped .semaphores))))

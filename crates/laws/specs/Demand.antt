@@ -30,7 +30,7 @@ use Prim.Native.Nat.{_-_}
 use native.Mathlib.Omega.{arith}
 use borrow.Author.Tests.{ne-eqb}
 use Rattle.rules.specs.Table.{placeOf}
-use Rattle.laws.specs.Settled.{Queued, sound-settled, able-place}
+use Rattle.laws.specs.Settled.{Queued, able-place}
 use Rattle.laws.specs.Stands.{able-stands, able-there, first-there, first-least, empty-none, none-empty}
 use Rattle.laws.specs.Always.{always, always-from}
 use Rattle.laws.specs.Ordering.{order-kept}
@@ -66,7 +66,7 @@ first-runs : {t : Table} → Sound t → t .depth ≡ 0 → FirstRuns t
 first-runs {t} s z =
     record {
       first = first;
-      able = λ i e. (omega (arith, s .inRange .running), able-there (taskOf t i) (there i e));
+      able = λ i e. (omega (arith, s .runs .range), able-there (taskOf t i) (there i e));
       urgent = λ i e j m a. subst (λ (n : ℕ). taskOf t n .work ≤ taskOf t j .work) (own i e) (first-least queued ableQueue (omega arith) j m (able-stands (taskOf t j) a));
       none = (
         (λ e j m. able-place (taskOf t j) ∙ ne-eqb _ ableQueue (empty-none queued ableQueue (omega arith) (sym first ∙ e) j m)),
@@ -75,10 +75,10 @@ first-runs {t} s z =
     }
   where
     queued : Queued t
-    queued = sound-settled s .queued
+    queued = s .settled .queued
 
     first : t .running ≡ firstIn ableQueue t
-    first = s .runsFirst z
+    first = s .runs .first z
 
     own : (i : ℕ) → t .running ≡ written i → firstIn ableQueue t - 1 ≡ i
     own i e = omega (arith, first)
@@ -88,7 +88,7 @@ first-runs {t} s z =
 
 -- It holds of each sound table.
 pub demand-sound : {t : Table} → Sound t → Demand3 t
-demand-sound s = record { worked = s .worked; ordered = s .ordered; runs = first-runs s; stable = λ c interrupt. order-kept c interrupt s }
+demand-sound s = record { worked = s .settled .worked; ordered = s .settled .queued .ordered; runs = first-runs s; stable = λ c interrupt. order-kept c interrupt s }
 
 -- From any sound table, after any sequence of calls and ticks, refused ones included.
 pub demand-3-from : {t : Table} → Sound t → (cs : List Made) → Demand3 (run cs t)

@@ -17,7 +17,7 @@ use Rattle.rules.specs.Sound.{Empty, Sound}
 use Rattle.rules.specs.Object.{emptied}
 use Rattle.rules.specs.Tick.{isDue, dueEnded, dueBelow, ticked}
 use Rattle.rules.specs.declared.Task.{Task}
-use Rattle.laws.specs.Settled.{Settled, NotDue, sound-settled, sound-notDue, sound-runs, sized}
+use Rattle.laws.specs.Settled.{Settled, NotDue, sized}
 use Rattle.laws.specs.Tally.{tally, tally-most, tally-some, tally-less}
 use Rattle.laws.specs.Fields.{rest, bare-place, put-rest, walk-rest}
 use Rattle.laws.specs.Put.{either}
@@ -35,7 +35,7 @@ pub record Unchosen (t : Table) : Type 0 where
   pub runs : RunsOn t
 
 pub sound-unchosen : {t : Table} → Sound t → Unchosen t
-sound-unchosen s = record { settled = sound-settled s; notDue = sound-notDue s; runs = right-on (sound-runs s) }
+sound-unchosen s = record { settled = s .settled; notDue = s .notDue; runs = right-on (s .runs) }
 
 -- ---- one wait that ends
 
@@ -192,8 +192,8 @@ unfolding ticked
 ticked-unchosen {t} s =
     let n = (t .tick + 1) % ticksRound in
     let u = withTick n t in
-    let h = sound-settled s in
-    let r = sound-runs s in
+    let h = s .settled in
+    let r = s .runs in
     let here : Settled u = list-settled h n (t .depth) (t .running) (omega arith) (h .depth) in
     let runs : RunsOn u = record { range = r .range; able = r .able } in
     let end : Timed taskCount (ticked t) =

@@ -3,11 +3,11 @@
 use mathlib.Core.Path.{_≡_, refl, ap, _∙_}
 use mathlib.Core.Logic.{_≢_}
 use mathlib.Core.Bool.{true}
-use Prim.Native.Nat.{ℕ, _+_, _-_, _≤_, _<_}
+use Prim.Native.Nat.{ℕ, _-_, _≤_, _<_}
 use native.Mathlib.Omega.{arith}
 use lib.ListN.{length, length-set}
 use Rattle.rules.specs.Sizes.{taskCount, mutexCount, ticksRound, delayed, waitsSemaphore, waitsMutex, aborted}
-use Rattle.rules.specs.Table.{Table, taskOf, queueCount, ableQueue, mutexQueue, firstIn, isAble, withSemaphore, withMutex}
+use Rattle.rules.specs.Table.{Table, taskOf, mutexQueue, firstIn, isAble, withSemaphore, withMutex}
 use Rattle.rules.specs.Walk.{walkOn}
 use Rattle.rules.specs.Move.{walk, next, holderOf}
 use Rattle.rules.specs.Sound.{Empty, objectsIn}
@@ -27,8 +27,9 @@ use Rattle.laws.specs.Becomes.{framed-settled, then-walk, blocked-become
 use Rattle.laws.specs.Records.{walk-tasks, DelayMarked}
 use Rattle.laws.specs.Due.{Off, blocked-due}
 use Rattle.laws.specs.Running.{same-runs, unlocked-runs}
-use Rattle.laws.specs.Stands.{semaphore-unwaited, mutex-unwaited}
-use Rattle.laws.specs.Linked.{SemaphoreRight, MutexRight, Awaited, HeldApart, WaitRight, Linked, objects-linked, linked-objects, linked-same, linked-semaphore, linked-mutex}
+use Rattle.laws.specs.Stands.{Placed, semaphores-placed, mutexes-placed, unwaited}
+use Rattle.rules.specs.Sound.{SemaphoreRight, MutexRight, WaitRight, ObjectsRight}
+use Rattle.laws.specs.Linked.{Awaited, HeldApart, linked-same, linked-semaphore, linked-mutex}
 use Rattle.laws.specs.Kept.{blocked-settled}
 use Rattle.laws.specs.Ending.{Unchosen, waiter-ended, first-waiter, emptied-all}
 
@@ -41,7 +42,7 @@ pub record Stores (t u : Table) : Type 0 where
   pub mutexes : length (u .mutexes) ≡ length (t .mutexes)
   pub frames : frame u ≡ frame t
   pub alike : Alike t u
-  pub linked : Linked u
+  pub linked : ObjectsRight u
 
 -- It keeps all the groups, whatever chain moves behind it.
 pub stores-keeps : {t u : Table} → Unchosen t → Stores t u → (s : ℕ) → Unchosen (walk s u)
@@ -54,7 +55,7 @@ stores-keeps {t} {u} h x s =
           (walk-worked u s (ap length (x .tasks) ∙ sized (h .settled)) (alike-worked (x .alike) (h .settled .worked)))
           (walk-tasks s u (rw (x .tasks) (h .settled .tasks)))
           (walk-each DelayMarked (λ k p l r. r) s u (rw (x .tasks) (h .settled .delays)))
-          (λ q. linked-objects q (linked-same (walk-bare s u) (walk-rest s u) (walk-size s u) (x .linked)));
+          (linked-same (walk-bare s u) (walk-rest s u) (walk-size s u) (x .linked));
       notDue = λ i l. rw (ap (λ (v : Table). v .tick) (ap frame (walk-rest s u) ∙ x .frames)) (walk-each (Off (t .tick)) (λ k p n r. r) s u (rw (x .tasks) (h .notDue)) i l);
       runs = same-runs (λ j. walk-bare s u j ∙ rw (x .tasks)) (ap frame (walk-rest s u) ∙ x .frames) (h .runs);
     }
@@ -67,8 +68,8 @@ stored-unchosen h x = stores-keeps h x taskCount
 -- ---- semaphores and mutexes stored
 
 module _ {t : Table} (s : Settled t) where
-  pub linked : Linked t
-  linked = objects-linked (s .queued) (s .objects)
+  pub linked : ObjectsRight t
+  linked = s .objects
 
   -- Whoever waits for it may go on waiting.
   pub semaphore-stores : (o : ℕ) (x : Semaphore) → SemaphoreRight x
@@ -104,16 +105,15 @@ module _ {t : Table} (s : Settled t) where
       }
 
   -- No task waits for a mutex whose queue is empty.
-  pub unwaited : (m : ℕ) (x : Mutex) → m < mutexCount → Empty (mutexQueue m) t → Alike t (withMutex m x t)
-  unwaited m x l e = unwaited-alike m x t (λ j w. mutex-unwaited (s .queued) m l e j (waits-task t m j (sized s) w) (w .0) (w .1))
+  pub unwaited-mutex : (m : ℕ) (x : Mutex) → m < mutexCount → Empty (mutexQueue m) t → Alike t (withMutex m x t)
+  unwaited-mutex m x l e = unwaited-alike m x t (λ j w. unwaited mutexes-placed (s .queued) m l e j (waits-task t m j (sized s) w) (w .0) (w .1))
 
 -- ---- families
 
 -- What a family brings, so that the laws of the calls on any family hold of it.
-pub record Lawful (f : Family) : Type 0 where
-  -- its queues are objects' queues, and its state is a wait's
-  pub queues : ableQueue < f .first
-  pub range : f .first + f .count ≤ queueCount
+pub record Lawful (f : Family) : Type 1 where
+  pub placed : Placed f
+  -- its state is a wait's
   pub waiting : delayed < f .state
   pub known : f .state ≤ waitsMutex
   pub numbers : objectsIn (f .state) ≡ f .count
@@ -126,31 +126,29 @@ pub semaphores-lawful : Lawful semaphores
 unfolding objectsIn
 semaphores-lawful =
     record {
-      queues = omega arith;
-      range = omega arith;
+      placed = semaphores-placed;
       waiting = omega arith;
       known = omega arith;
       numbers = refl;
       chain = λ e. absurd (omega arith);
       goes = λ s o l z.
-          semaphore-stores s o _ (record { used = omega arith; count = omega arith; free = λ e. refl }) (λ j k e x. absurd (semaphore-unwaited (s .queued) o l z j k e x));
+          semaphore-stores s o _ (record { used = omega arith; count = omega arith; free = λ e. refl }) (λ j k e x. absurd (unwaited semaphores-placed (s .queued) o l z j k e x));
     }
 
 pub mutexes-lawful : Lawful mutexes
 unfolding objectsIn
 mutexes-lawful =
     record {
-      queues = omega arith;
-      range = omega arith;
+      placed = mutexes-placed;
       waiting = omega arith;
       known = omega arith;
       numbers = refl;
       chain = λ e t o. refl;
       goes = λ s m l z.
           mutex-stores s m _ (record { used = omega arith; holder = omega arith; nesting = omega arith; free = λ e. refl; unheld = λ e. refl; held = λ d. absurd (d refl) })
-          (λ j k e x. absurd (mutex-unwaited (s .queued) m l z j k e x))
+          (λ j k e x. absurd (unwaited mutexes-placed (s .queued) m l z j k e x))
           (λ d. absurd (d refl))
-          (unwaited s m _ l z);
+          (unwaited-mutex s m _ l z);
     }
 
 -- ---- the calls that every family has
@@ -160,13 +158,13 @@ module _ {f : Family} (k : Lawful f) {t : Table} (h : Unchosen t) (o : ℕ) (l :
   pub abort-keeps : firstIn (waitersOf f o) t ≢ 0 → Unchosen (objectAbort f o t)
   unfolding objectAbort abort
   abort-keeps some =
-      waiter-ended h (first-waiter (h .settled) (waitersOf f o) (omega (arith, k .range)) (λ e. omega (arith, k .queues)) some) aborted (omega arith)
+      waiter-ended h (first-waiter (h .settled) (waitersOf f o) (omega (arith, k .placed .range)) (λ e. omega (arith, k .placed .queues)) some) aborted (omega arith)
 
   -- "the same for each waiter from the first, outcome 3, then the object goes; its holder is recomputed and its chain moved"
   pub delete-keeps : Unchosen (objectDelete f o t)
   unfolding objectDelete
   delete-keeps =
-      let e = emptied-all (waitersOf f o) (omega (arith, k .range)) (λ z. omega (arith, k .queues)) h in
+      let e = emptied-all (waitersOf f o) (omega (arith, k .placed .range)) (λ z. omega (arith, k .placed .queues)) h in
       stores-keeps (e .unchosen) (k .goes (e .unchosen .settled) o l (e .empty)) (f .holder t o)
 
   -- "Otherwise the caller leaves the able queue, goes behind its equals in the object's queue, and .. the chain from the holder moves."

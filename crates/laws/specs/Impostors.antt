@@ -22,7 +22,7 @@ use Rattle.laws.specs.Order.{Made}
 -- These the proofs alone use.
 use Rattle.queue.specs.Slots.{firstAt, later, push, pull, opened, closed}
 use Rattle.queue.specs.Order.{count, mayPrecede, fits, isOrdered}
-use Rattle.rules.specs.Sound.{each, isShaped, objectsIn, marksIn, isTaskInRange, isInRange, isNoTask, isNoSemaphore, isNoMutex, isFreeZero, isQueued, isWaited, isWorked, isHeldRight, isTimed, runsRight, isSound}
+use Rattle.rules.specs.Sound.{each, isShaped, objectsIn, marksIn, isTaskInRange, isNoTask, isNoSemaphore, isNoMutex, isTaskRight, isSemaphoreRight, isMutexRight, mayWait, isWaitRight, isObjectsRight, isQueued, isWorked, isSettled, runsRight, isSound}
 use Rattle.rules.specs.Tested.{tested-sound}
 use Rattle.rules.specs.Chain.{leads, smallest, fresh}
 use Rattle.rules.specs.Walk.{walkOn}
@@ -122,7 +122,7 @@ record Raising : Type 0 where
   next : taskOf (serve (MutexWait 0 1 0) false raised .table) 3 .work ≡ 5
 
 raising : Raising
-unfolding firstAt later push pull opened closed leads smallest fresh walkOn freshTable isAble placeOf works leave join stays put holderOf next freshIn chosen createAnswer create objectCreateAnswer blocked waits taken mutexCreate mutexWaitAnswer mutexWait answerTo changeBy forInterrupts answer effect serve count mayPrecede fits isOrdered each isShaped objectsIn marksIn isTaskInRange isInRange isNoTask isNoSemaphore isNoMutex isFreeZero isQueued isWaited isWorked isHeldRight isTimed runsRight isSound after
+unfolding firstAt later push pull opened closed leads smallest fresh walkOn freshTable isAble placeOf works leave join stays put holderOf next freshIn chosen createAnswer create objectCreateAnswer blocked waits taken mutexCreate mutexWaitAnswer mutexWait answerTo changeBy forInterrupts answer effect serve count mayPrecede fits isOrdered each isShaped objectsIn marksIn isTaskInRange isNoTask isNoSemaphore isNoMutex isTaskRight isSemaphoreRight isMutexRight mayWait isWaitRight isObjectsRight isQueued isWorked isSettled runsRight isSound after
 raising = record { sound = refl; before = refl; base = refl; next = refl }
 
 -- Nothing that does what the rules say is one of the five.
@@ -146,7 +146,7 @@ honest f meets =
           omega (arith, raising .before, raising .next, a, b);
       keepsOn = λ p.
           let c = p .made in
-          p .wrong (rw (meets (c .call) (c .interrupt) (p .table) (p .sound)) (step-sound (p .sound) (c .call) (c .bounded) (c .interrupt) .worked (p .task) (p .range)));
+          p .wrong (rw (meets (c .call) (c .interrupt) (p .table) (p .sound)) (step-sound (p .sound) (c .call) (c .bounded) (c .interrupt) .settled .worked (p .task) (p .range)));
       counts = invents;
     }
   where

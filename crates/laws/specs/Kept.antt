@@ -22,7 +22,7 @@ use Rattle.laws.specs.Becomes.{framed-settled, create-becomes, delete-be
 use Rattle.laws.specs.Records.{walk-tasks, create-tasks, delete-tasks, changePriority-tasks, suspend-tasks, resume-tasks, rotate-tasks, ended-tasks, delay-tasks, blocked-tasks, taken-tasks, turned-tasks, released-tasks, create-delays, delete-delays, changePriority-delays, suspend-delays, resume-delays, rotate-delays, ended-delays, delay-delays, blocked-delays, taken-delays, turned-delays, released-delays}
 use Rattle.laws.specs.Objects.{framed-objects, create-objects, delete-objects, changePriority-objects, suspend-objects, resume-objects, rotate-objects, ended-objects, delay-objects, blocked-objects, taken-objects, turned-objects, released-objects}
 use Rattle.laws.specs.Stands.{able}
-use Rattle.laws.specs.Linked.{WaitRight}
+use Rattle.rules.specs.Sound.{WaitRight}
 
 module _ {t : Table} (s : Settled t) where
   -- ---- tick, depth and running task alone

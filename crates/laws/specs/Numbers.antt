@@ -10,9 +10,12 @@ use mathlib.Core.Bool.{Bool, true, false}
 use mathlib.Core.List.{List, [], _∷_}
 use Prim.Native.Nat.{ℕ, _≤_, _<_}
 use Rattle.queue.specs.Slots.{firstAt, same}
-use Rattle.rules.specs.Sizes.{taskCount, semaphoreCount, mutexCount, lastPriority, mostQuantum, mostNested, mostCount, delayed, done, beyondRange, notInUse, inUse, badValue, byInterrupt, noneRunning, whileLocked, nothingToTake, notItsHolder, nestedTooDeep, countFull, nothingToUndo, stillNeeded, blocks, notSound}
+use Rattle.rules.specs.Sizes.{taskCount, mutexCount, lastPriority, mostQuantum, mostNested, mostCount, delayed, done, beyondRange, notInUse, inUse, badValue, byInterrupt, noneRunning, whileLocked, nothingToTake, notItsHolder, nestedTooDeep, countFull, nothingToUndo, stillNeeded, blocks, notSound}
 use Rattle.rules.specs.Table.{Table, taskOf, semaphoreOf, mutexOf, semaphoreQueue, mutexQueue, written}
 use Rattle.rules.specs.Time.{callerOf}
+use Rattle.rules.specs.Family.{Family}
+use Rattle.rules.specs.Semaphore.{semaphores}
+use Rattle.rules.specs.Mutex.{mutexes}
 use Rattle.rules.specs.Sound.{Empty, Sound}
 use Rattle.rules.specs.Step.{forInterrupts}
 use Rattle.rules.specs.declared.Call.{Call}
@@ -38,32 +41,28 @@ rank n = firstAt (same n) paperOrder
 -- A thing that a call is on.
 pub data Thing : Type 0 where
   task : ℕ → Thing
-  semaphore : ℕ → Thing
-  mutex : ℕ → Thing
+  object : Family → ℕ → Thing
 
 -- How many of its kind there are.
 unfoldable pub countOf : Thing → ℕ
 countOf (task i) = taskCount
-countOf (semaphore s) = semaphoreCount
-countOf (mutex m) = mutexCount
+countOf (object f o) = f .count
 
 -- Its number.
 unfoldable pub numberOf : Thing → ℕ
 numberOf (task i) = i
-numberOf (semaphore s) = s
-numberOf (mutex m) = m
+numberOf (object f o) = o
 
 -- 1 where it is in use.
 unfoldable pub usedIn : Table → Thing → ℕ
 usedIn t (task i) = taskOf t i .used
-usedIn t (semaphore s) = semaphoreOf t s .used
-usedIn t (mutex m) = mutexOf t m .used
+usedIn t (object f o) = f .used t o
 
 -- The call creates it.
 pub data Creates : Call → Thing → Type 0 where
   aTask : {i base quantum : ℕ} → Creates (TaskCreate i base quantum) (task i)
-  aSemaphore : {s n : ℕ} → Creates (SemaphoreCreate s n) (semaphore s)
-  aMutex : {m : ℕ} → Creates (MutexCreate m) (mutex m)
+  aSemaphore : {s n : ℕ} → Creates (SemaphoreCreate s n) (object semaphores s)
+  aMutex : {m : ℕ} → Creates (MutexCreate m) (object mutexes m)
 
 -- The call is on it, and wants it in use.
 pub data On : Call → Thing → Type 0 where
@@ -72,14 +71,14 @@ pub data On : Call → Thing → Type 0 where
   suspend : {i : ℕ} → On (Suspend i) (task i)
   resume : {i : ℕ} → On (Resume i) (task i)
   delayResume : {i : ℕ} → On (DelayResume i) (task i)
-  semaphoreDelete : {s force : ℕ} → On (SemaphoreDelete s force) (semaphore s)
-  semaphoreWait : {s block limit : ℕ} → On (SemaphoreWait s block limit) (semaphore s)
-  semaphorePost : {s : ℕ} → On (SemaphorePost s) (semaphore s)
-  semaphoreAbort : {s : ℕ} → On (SemaphoreAbort s) (semaphore s)
-  mutexDelete : {m force : ℕ} → On (MutexDelete m force) (mutex m)
-  mutexWait : {m block limit : ℕ} → On (MutexWait m block limit) (mutex m)
-  mutexPost : {m : ℕ} → On (MutexPost m) (mutex m)
-  mutexAbort : {m : ℕ} → On (MutexAbort m) (mutex m)
+  semaphoreDelete : {s force : ℕ} → On (SemaphoreDelete s force) (object semaphores s)
+  semaphoreWait : {s block limit : ℕ} → On (SemaphoreWait s block limit) (object semaphores s)
+  semaphorePost : {s : ℕ} → On (SemaphorePost s) (object semaphores s)
+  semaphoreAbort : {s : ℕ} → On (SemaphoreAbort s) (object semaphores s)
+  mutexDelete : {m force : ℕ} → On (MutexDelete m force) (object mutexes m)
+  mutexWait : {m block limit : ℕ} → On (MutexWait m block limit) (object mutexes m)
+  mutexPost : {m : ℕ} → On (MutexPost m) (object mutexes m)
+  mutexAbort : {m : ℕ} → On (MutexAbort m) (object mutexes m)
 
 -- A wait that finds nothing to take: at count 0, or of a mutex that another task holds.
 pub data FindsNothing (t : Table) : (block : ℕ) → Call → Type 0 where

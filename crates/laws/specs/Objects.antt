@@ -1,4 +1,4 @@
--- Each call leaves the objects right: ObjectsRight. What a call does to the queues is taken from `Queued` of the table after it.
+-- Each call leaves the objects right: ObjectsRight.
 use mathlib.Core.Path.{_≡_, refl, sym, ap, _∙_}
 use mathlib.Core.Logic.{_≢_}
 use mathlib.Core.Bool.{true, false}
@@ -22,25 +22,19 @@ use Rattle.laws.specs.Settled.{Queued, ObjectsRight, Settled, sized}
 use Rattle.laws.specs.Fields.{rest, framed, bare, bare-place, walk-rest, walk-size, walk-bare, put-rest, put-size}
 use Rattle.laws.specs.Put.{either}
 use Rattle.laws.specs.Becomes.{Becomes, put-becomes, then-walk, create-becomes, delete-becomes, changePriority-becomes, suspend-becomes, resume-becomes, rotate-becomes, ended-becomes, caller, caller-used, delay-becomes, blocked-becomes, taken-becomes, turned-becomes, freed, released-one, given-to}
-use Rattle.laws.specs.Stands.{placed-used, first-range, first-there, mutex-unwaited}
+use Rattle.laws.specs.Stands.{placed-used, first-range, first-there, mutexes-placed, unwaited}
 use Rattle.laws.specs.Found.{holds-none}
-use Rattle.laws.specs.Linked.{MutexRight, HeldApart, WaitRight, Linked, objects-linked, linked-objects, linked-become, holder-used, linked-same, linked-mutex}
+use Rattle.rules.specs.Sound.{MutexRight, WaitRight}
+use Rattle.laws.specs.Linked.{HeldApart, waits-like, linked-become, holder-used, linked-same, linked-mutex}
 
 -- A change of tick, depth and running task alone.
 pub framed-objects : {t : Table} (tick depth running : ℕ) → ObjectsRight t → ObjectsRight (framed tick depth running t)
-framed-objects tick depth running o =
+framed-objects {t} tick depth running o =
     record {
-      semaphoresInUse = o .semaphoresInUse;
-      mutexesInUse = o .mutexesInUse;
-      semaphoreRanges = o .semaphoreRanges;
-      mutexRanges = o .mutexRanges;
-      freeSemaphores = o .freeSemaphores;
-      freeNumbers = o .freeNumbers;
-      freeMutexes = o .freeMutexes;
-      heldMutexes = o .heldMutexes;
-      holdersInUse = o .holdersInUse;
-      holdersApart = o .holdersApart;
-      counts = o .counts;
+      semaphores = o .semaphores;
+      mutexes = o .mutexes;
+      waits = λ i l. waits-like {u = framed tick depth running t} i (taskOf t i .state) (taskOf t i .object) refl refl (o .waits i l);
+      holders = o .holders;
     }
 
 -- ---- each call on a task
@@ -58,7 +52,7 @@ stored-twice : (m : ℕ) (x y : Mutex) (t : Table) → withMutex m y (withMutex 
 stored-twice m x y t = rw (set-set (t .mutexes) m x y)
 
 -- The first waiter becomes plain, and then it is the holder.
-linked-given : {t : Table} (m w : ℕ) → Linked t → length (t .tasks) ≡ taskCount → w ≢ 0 → w ≤ taskCount → taskOf t (w - 1) .used ≡ 1 → Linked (given-to m w (freed m t))
+linked-given : {t : Table} (m w : ℕ) → ObjectsRight t → length (t .tasks) ≡ taskCount → w ≢ 0 → w ≤ taskCount → taskOf t (w - 1) .used ≡ 1 → ObjectsRight (given-to m w (freed m t))
 linked-given {t} m w old size d l u = linked-same tasks rests sizes (linked-mutex m (heldBy w 1) awake (held-right w 1 d l (omega arith) (omega arith)) waited (λ e. ap (λ (k : Task). k .used) (woken .itself) ∙ u))
   where
     i : ℕ
@@ -70,7 +64,7 @@ linked-given {t} m w old size d l u = linked-same tasks rests sizes (linked-mute
     woken : Becomes i (ready given (taskOf t i)) t (put i (ready given (taskOf t i)) t)
     woken = put-becomes (omega arith) size _
 
-    awake : Linked (put i (ready given (taskOf t i)) t)
+    awake : ObjectsRight (put i (ready given (taskOf t i)) t)
     awake = linked-become woken old (record { semaphore = λ e. absurd (omega arith); mutex = λ e. absurd (omega arith) }) (holder-used old i)
 
     waited : (j : ℕ) → j < taskCount → taskOf (put i (ready given (taskOf t i)) t) j .state ≡ waitsMutex → taskOf (put i (ready given (taskOf t i)) t) j .object ≡ m → HeldApart j (heldBy w 1)
@@ -104,74 +98,73 @@ linked-given {t} m w old size d l u = linked-same tasks rests sizes (linked-mute
     sizes = put-size i _ _ ∙ walk-size (callerOf t) free ∙ sym (put-size i _ t)
 
 module _ {t : Table} (s : Settled t) where
-  linked : Linked t
-  linked = objects-linked (s .queued) (s .objects)
+  linked : ObjectsRight t
+  linked = s .objects
 
   -- A task that waits for no object.
   no-wait : (i state object : ℕ) → state < waitsSemaphore → WaitRight t i state object
   no-wait i state object l = record { semaphore = λ e. absurd (omega arith); mutex = λ e. absurd (omega arith) }
 
-  becomes-right : {i : ℕ} {k : Task} {u : Table} → Becomes i k t u → WaitRight t i (k .state) (k .object) → k .used ≡ 1 → Queued u → ObjectsRight u
-  becomes-right b may used q = linked-objects q (linked-become b linked may (λ m l e. used))
+  becomes-right : {i : ℕ} {k : Task} {u : Table} → Becomes i k t u → WaitRight t i (k .state) (k .object) → k .used ≡ 1 → ObjectsRight u
+  becomes-right b may used = linked-become b linked may (λ m l e. used)
 
   module _ (i : ℕ) (l : i < taskCount) where
-    pub create-objects : (base quantum : ℕ) → Queued (create i base quantum t) → ObjectsRight (create i base quantum t)
+    pub create-objects : (base quantum : ℕ) → ObjectsRight (create i base quantum t)
     create-objects base quantum = becomes-right (create-becomes l (sized s) base quantum) (no-wait i 0 0 (omega arith)) refl
 
-    pub delete-objects : holdsBelow mutexCount i t ≡ false → Queued (delete i t) → ObjectsRight (delete i t)
-    delete-objects h q =
-        linked-objects q (linked-become (delete-becomes l (sized s)) linked (no-wait i 0 0 (omega arith)) (λ m n e. absurd (holds-none mutexCount i t h m n e)))
+    pub delete-objects : holdsBelow mutexCount i t ≡ false → ObjectsRight (delete i t)
+    delete-objects h = linked-become (delete-becomes l (sized s)) linked (no-wait i 0 0 (omega arith)) (λ m n e. absurd (holds-none mutexCount i t h m n e))
 
     module _ (u : taskOf t i .used ≡ 1) where
-      pub changePriority-objects : (base : ℕ) → Queued (changePriority i base t) → ObjectsRight (changePriority i base t)
+      pub changePriority-objects : (base : ℕ) → ObjectsRight (changePriority i base t)
       changePriority-objects base = becomes-right (changePriority-becomes l (sized s) base) (linked .waits i l) u
 
-      pub suspend-objects : Queued (suspend i t) → ObjectsRight (suspend i t)
+      pub suspend-objects : ObjectsRight (suspend i t)
       suspend-objects = becomes-right (suspend-becomes l (sized s)) (linked .waits i l) u
 
-      pub resume-objects : Queued (resume i t) → ObjectsRight (resume i t)
+      pub resume-objects : ObjectsRight (resume i t)
       resume-objects = becomes-right (resume-becomes l (sized s)) (linked .waits i l) u
 
-      pub rotate-objects : Queued (rotate i t) → ObjectsRight (rotate i t)
+      pub rotate-objects : ObjectsRight (rotate i t)
       rotate-objects = becomes-right (rotate-becomes l (sized s)) (linked .waits i l) u
 
-      pub ended-objects : (outcome : ℕ) → Queued (ended outcome i t) → ObjectsRight (ended outcome i t)
+      pub ended-objects : (outcome : ℕ) → ObjectsRight (ended outcome i t)
       ended-objects outcome = becomes-right (ended-becomes l (sized s) outcome) (no-wait i 0 0 (omega arith)) u
 
   -- ---- calls of the running task
 
   module _ (l : callerOf t < taskCount) (a : isAble (caller t) ≡ true) where
-    pub delay-objects : (n : ℕ) → Queued (delay n t) → ObjectsRight (delay n t)
+    pub delay-objects : (n : ℕ) → ObjectsRight (delay n t)
     delay-objects n = becomes-right (delay-becomes l (sized s) n) (no-wait _ 1 0 (omega arith)) (caller-used t a)
 
-    pub taken-objects : Queued (taken t) → ObjectsRight (taken t)
+    pub taken-objects : ObjectsRight (taken t)
     taken-objects = becomes-right (taken-becomes l (sized s)) (linked .waits _ l) (caller-used t a)
 
     limited-used : (limit : ℕ) → limited limit t (caller t) .used ≡ 1
     limited-used limit = either (λ (k : Task). k .used ≡ 1) (eqb limit 0) (caller-used t a) (caller-used t a)
 
     pub blocked-objects : (state object limit w : ℕ) → WaitRight t (callerOf t) state object
-        → Queued (walk w (blocked state object limit t)) → ObjectsRight (walk w (blocked state object limit t))
+        → ObjectsRight (walk w (blocked state object limit t))
     blocked-objects state object limit w may = becomes-right (then-walk w (blocked-becomes l (sized s) state object limit)) may (limited-used limit)
 
-  pub turned-objects : callerOf t < taskCount → Queued (turned t) → ObjectsRight (turned t)
-  turned-objects l q = linked-objects q (linked-become (turned-becomes l (sized s) .1) linked (linked .waits _ l) (holder-used linked _))
+  pub turned-objects : callerOf t < taskCount → ObjectsRight (turned t)
+  turned-objects l = linked-become (turned-becomes l (sized s) .1) linked (linked .waits _ l) (holder-used linked _)
 
   -- ---- a release
 
   module _ (m : ℕ) (l : m < mutexCount) where
-    pub released-objects : Queued (freed m t) → Queued (released m t) → ObjectsRight (released m t)
-    released-objects f q = linked-objects q (released-one Linked m t none one)
+    pub released-objects : Queued (freed m t) → ObjectsRight (released m t)
+    released-objects f = (released-one ObjectsRight m t none one)
       where
         same : (j : ℕ) → bare (taskOf (freed m t) j) ≡ bare (taskOf t j)
         same = walk-bare (callerOf t) (withMutex m (heldBy 0 0) t)
 
-        none : firstIn (mutexQueue m) (freed m t) ≡ 0 → Linked (freed m t)
+        none : firstIn (mutexQueue m) (freed m t) ≡ 0 → ObjectsRight (freed m t)
         none z =
             linked-same same (walk-rest (callerOf t) (withMutex m (heldBy 0 0) t)) (walk-size (callerOf t) (withMutex m (heldBy 0 0) t))
-            (linked-mutex m (heldBy 0 0) linked unheld (λ j k e x. absurd (mutex-unwaited f m l z j k (ap (λ (y : Task). y .state) (same j) ∙ e) (ap (λ (y : Task). y .object) (same j) ∙ x))) (λ d. absurd (d refl)))
+            (linked-mutex m (heldBy 0 0) linked unheld (λ j k e x. absurd (unwaited mutexes-placed f m l z j k (ap (λ (y : Task). y .state) (same j) ∙ e) (ap (λ (y : Task). y .object) (same j) ∙ x))) (λ d. absurd (d refl)))
 
-        one : firstIn (mutexQueue m) (freed m t) ≢ 0 → Linked (given-to m (firstIn (mutexQueue m) (freed m t)) (freed m t))
+        one : firstIn (mutexQueue m) (freed m t) ≢ 0 → ObjectsRight (given-to m (firstIn (mutexQueue m) (freed m t)) (freed m t))
         one d =
             let w = firstIn (mutexQueue m) (freed m t) in
             let n : w ≤ taskCount = first-range f (mutexQueue m) (omega arith) in

@@ -22,7 +22,7 @@ use Rattle.rules.specs.Sound.{Sound}
 use Rattle.rules.specs.declared.Task.{Task}
 use Rattle.rules.specs.declared.Call.{Call}
 use Rattle.rules.specs.declared.Call.the-variants.{TaskCreate, TaskDelete, ChangePriority, Suspend, Resume, Yield, Delay, DelayResume, Lock, Unlock, Tick, SemaphoreCreate, SemaphoreDelete, SemaphoreWait, SemaphorePost, SemaphoreAbort, MutexCreate, MutexDelete, MutexWait, MutexPost, MutexAbort}
-use Rattle.laws.specs.Settled.{Queued, sound-settled, sound-runs, free-place}
+use Rattle.laws.specs.Settled.{Queued, free-place}
 use Rattle.laws.specs.Put.{either, task-put-same, place-same}
 use Rattle.laws.specs.Fields.{walk-place}
 use Rattle.laws.specs.Becomes.{caller, freed, given-to, released-one}
@@ -91,7 +91,7 @@ module _ {q a b : ℕ} (m : q < queueCount) (two : Two a b) where
 
   module _ {t : Table} (s : Sound t) where
     queued : Queued t
-    queued = sound-settled s .queued
+    queued = s .settled .queued
 
     delete-kept : (i : ℕ) → Kept q a b t (delete i t)
     unfolding delete
@@ -110,7 +110,7 @@ module _ {q a b : ℕ} (m : q < queueCount) (two : Two a b) where
 
     yield-kept : Accepted Yield t → (Rotated Yield false t a → ⊥) → (Rotated Yield false t b → ⊥) → Kept q a b t (yield t)
     unfolding yield
-    yield-kept (c, z, p) x y = moved-kept (rotate-moved two rises-oneway i (λ e. x (rw e rotated)) (λ e. y (rw e rotated)) queued (omega (arith, s .inRange .running)))
+    yield-kept (c, z, p) x y = moved-kept (rotate-moved two rises-oneway i (λ e. x (rw e rotated)) (λ e. y (rw e rotated)) queued (omega (arith, s .runs .range)))
       where
         i : ℕ
         i = callerOf t
@@ -140,8 +140,8 @@ module _ {q a b : ℕ} (m : q < queueCount) (two : Two a b) where
     unfolding objectDelete
     objectDelete-kept {f} k o l =
         let p = waitersOf f o in
-        let n : p < queueCount = omega (arith, k .range) in
-        let d : p ≢ ableQueue = λ e. omega (arith, k .queues) in
+        let n : p < queueCount = omega (arith, k .placed .range) in
+        let d : p ≢ ableQueue = λ e. omega (arith, k .placed .queues) in
         let e = emptied-all p n d (sound-unchosen s) in
         let x = k .goes (e .unchosen .settled) o l (e .empty) in
         moved-kept
@@ -152,7 +152,7 @@ module _ {q a b : ℕ} (m : q < queueCount) (two : Two a b) where
 
     objectAbort-kept : {f : Family} → Lawful f → (o : ℕ) → o < f .count → firstIn (waitersOf f o) t ≢ 0 → Kept q a b t (objectAbort f o t)
     unfolding objectAbort abort
-    objectAbort-kept {f} k o l z = first-kept aborted (waitersOf f o) (omega (arith, k .range)) (λ e. omega (arith, k .queues)) z
+    objectAbort-kept {f} k o l z = first-kept aborted (waitersOf f o) (omega (arith, k .placed .range)) (λ e. omega (arith, k .placed .queues)) z
 
     -- The mutex goes to the first that waits for it.
     given-moved : {u : Table} (n w : ℕ) → w ≢ 0 → Queued u → placeOf (taskOf u (w - 1)) ≢ ableQueue → Moved (λ x. Rises) a b u (given-to n w u)
@@ -189,7 +189,7 @@ module _ {q a b : ℕ} (m : q < queueCount) (two : Two a b) where
     waits-kept {f} n o limit r =
         let k = withState (f .state) o (limited limit t (caller t)) in
         chain-kept (callerOf t) k (f .holder t o) queued
-        (λ x y. ⊎-elim r (λ h. not-able k (λ e. omega (arith, n .waiting)) (y ∙ sym x ∙ able-stands (caller t) h)) (caller-able queued (sound-runs s)))
+        (λ x y. ⊎-elim r (λ h. not-able k (λ e. omega (arith, n .waiting)) (y ∙ sym x ∙ able-stands (caller t) h)) (caller-able queued (s .runs)))
 
     semaphoreWait-kept : (n limit : ℕ) → t .running ≢ 0 → Kept q a b t (semaphoreWait n limit t)
     unfolding semaphoreWait

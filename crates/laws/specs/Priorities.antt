@@ -253,7 +253,7 @@ module _ {t : Table} (h : Settled t) where
       unheld : Each mutexCount (λ m. mutexOf t m .holder ≢ written i)
       unheld m k e =
           let there : mutexOf t m .holder - 1 ≡ i = omega arith in
-          omega (arith, h .objects .holdersInUse m k (λ z. omega arith), ap (λ (j : ℕ). taskOf t j .used) there)
+          omega (arith, h .objects .holders m k (λ z. omega arith), ap (λ (j : ℕ). taskOf t j .used) there)
 
       out : taskCount ≤ next t i
       out = omega (arith, next-is t i, waits-none (holderOf t) (taskOf t i) (λ e. omega (arith, ap (λ (x : Task). x .state) (h .tasks i l .freeZero free))))

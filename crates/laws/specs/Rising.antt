@@ -14,7 +14,7 @@ use Rattle.rules.specs.Tick.{dueEnded, dueBelow}
 use Rattle.rules.specs.Sound.{Each, Sound}
 use Rattle.rules.specs.declared.Task.{Task}
 use Rattle.rules.specs.declared.Mutex.{Mutex}
-use Rattle.laws.specs.Settled.{Queued, sound-settled, Settled, sized}
+use Rattle.laws.specs.Settled.{Queued, Settled, sized}
 use Rattle.laws.specs.Put.{put-stored, rotate-stored, put-each, rotate-each, task-put-same, part-put, walk-inv}
 use Rattle.laws.specs.Queues.{put-queued, rotate-queued, mutex-queued}
 use Rattle.laws.specs.Stands.{able, Place, ready, forSemaphore, forMutex, nowhere, place, able-there, first-range, first-there}
@@ -118,7 +118,7 @@ settled-fit {t} s =
     }
 
 pub sound-fit : {t : Table} → Sound t → Fit t
-sound-fit s = settled-fit (sound-settled s)
+sound-fit s = settled-fit (s .settled)
 
 module _ {t : Table} (f : Fit t) where
   -- A task that waits for no mutex changes.

@@ -7,11 +7,11 @@ use Rattle.rules.specs.Sizes.{notSound}
 use Rattle.rules.specs.Chain.{leads, smallest, fresh}
 use Rattle.rules.specs.Table.{Table, freshTable, ableQueue, firstIn, isAble, placeOf, works}
 use Rattle.rules.specs.Move.{holderOf, next, freshIn, chosen}
-use Rattle.rules.specs.Sound.{Sound, each, isShaped, objectsIn, marksIn, isTaskInRange, isInRange, isNoTask, isNoSemaphore, isNoMutex, isFreeZero, isQueued, isWaited, isWorked, isHeldRight, isTimed, runsRight, isSound}
+use Rattle.rules.specs.Sound.{Sound, each, isShaped, objectsIn, marksIn, isTaskInRange, isNoTask, isNoSemaphore, isNoMutex, isTaskRight, isSemaphoreRight, isMutexRight, mayWait, isWaitRight, isObjectsRight, isQueued, isWorked, isSettled, runsRight, isSound}
 use Rattle.rules.specs.Tested.{sound-tested, tested-sound}
 use Rattle.rules.specs.Step.{changes, changeBy, answer, effect, Bounded, serve, step}
 use Rattle.rules.specs.declared.Call.{Call}
-use Rattle.laws.specs.Settled.{Settled, NotDue, settled-sound}
+use Rattle.laws.specs.Settled.{Settled, NotDue}
 use Rattle.laws.specs.Running.{chosen-runs, chosen-one}
 use Rattle.laws.specs.Kept.{list-settled}
 use Rattle.laws.specs.Ending.{Unchosen}
@@ -24,10 +24,11 @@ use Rattle.laws.specs.Calls.{change-unchosen}
 pub chosen-sound : {t : Table} → Unchosen t → Sound (chosen t)
 chosen-sound {t} u =
     let h = u .settled in
-    settled-sound
-    (chosen-one Settled t h (list-settled h (t .tick) (t .depth) (firstIn ableQueue t) (h .tick) (h .depth)))
-    (chosen-one NotDue t (u .notDue) (u .notDue))
-    (chosen-runs (h .queued) (u .runs))
+    record {
+      settled = chosen-one Settled t h (list-settled h (t .tick) (t .depth) (firstIn ableQueue t) (h .tick) (h .depth));
+      notDue = chosen-one NotDue t (u .notDue) (u .notDue);
+      runs = chosen-runs (h .queued) (u .runs);
+    }
 
 -- ---- a call
 
@@ -59,5 +60,5 @@ serve-small c interrupt t = accepts c interrupt t .small
 
 -- The fresh table is sound.
 pub fresh-sound : Sound freshTable
-unfolding count mayPrecede fits isOrdered leads smallest fresh freshTable isAble placeOf works holderOf next freshIn each isShaped objectsIn marksIn isTaskInRange isInRange isNoTask isNoSemaphore isNoMutex isFreeZero isQueued isWaited isWorked isHeldRight isTimed runsRight isSound
+unfolding count mayPrecede fits isOrdered leads smallest fresh freshTable isAble placeOf works holderOf next freshIn each isShaped objectsIn marksIn isTaskInRange isNoTask isNoSemaphore isNoMutex isTaskRight isSemaphoreRight isMutexRight mayWait isWaitRight isObjectsRight isQueued isWorked isSettled runsRight isSound
 fresh-sound = tested-sound freshTable refl

@@ -1,9 +1,9 @@
 -- Where a task stands, and what the front slot of a queue says of the tasks. Assumes nothing.
 use mathlib.Core.Path.{_≡_, refl, sym, ap, subst, _∙_}
-use mathlib.Core.Logic.{⊎-elim, _≢_}
+use mathlib.Core.Logic.{_⊎_, ⊎-elim, _≢_}
 use mathlib.Core.Bool.{Bool, true, false, cond}
 use mathlib.Core.List.{List}
-use Prim.Native.Nat.{ℕ, _-_, _≤_, _<_}
+use Prim.Native.Nat.{ℕ, _+_, _-_, _≤_, _<_}
 use native.Mathlib.Decide.{ℕ-discrete}
 use native.Mathlib.Omega.{arith}
 use lib.Dec.{eqb}
@@ -16,7 +16,10 @@ use Rattle.queue.specs.Stands.{one-other, stands-at, stands-some}
 use Rattle.rules.specs.Sizes.{taskCount, semaphoreCount, mutexCount, plain, delayed, waitsSemaphore, waitsMutex}
 use Rattle.rules.specs.Table.{Table, taskOf, queueOf, queueCount, ableQueue, semaphoreQueue, mutexQueue, firstIn, works, isAble, placeOf, written}
 use Rattle.rules.specs.Decides.{Decides, equals, first, last}
-use Rattle.rules.specs.Sound.{Empty, once, objectsIn, TaskInRange}
+use Rattle.rules.specs.Family.{Family, waitersOf}
+use Rattle.rules.specs.Semaphore.{semaphores}
+use Rattle.rules.specs.Mutex.{mutexes}
+use Rattle.rules.specs.Sound.{Empty, once, objectsIn, TaskInRange, TasksRight, MayWait, OfEach, ObjectsRight}
 use Rattle.rules.specs.declared.Task.{Task}
 use Rattle.laws.specs.Settled.{Queued, TaskRight, able-place}
 use Rattle.laws.specs.Put.{work-at}
@@ -178,11 +181,36 @@ module _ {t : Table} (s : Queued t) (q : ℕ) (l : q < queueCount) where
       go (yes e) = e
       go (no n) = absurd (out (firstIn q t - 1) (omega (arith, first-range)) (first-there n))
 
--- Where an object's queue is empty, nobody waits for it.
-pub semaphore-unwaited : {t : Table} → Queued t → (o : ℕ) → o < semaphoreCount → Empty (semaphoreQueue o) t
-    → (j : ℕ) → j < taskCount → taskOf t j .state ≡ waitsSemaphore → taskOf t j .object ≢ o
-semaphore-unwaited {t} q o l z j m e x = empty-none q (semaphoreQueue o) (omega arith) z j m (semaphore-place (taskOf t j) e ∙ ap semaphoreQueue x)
+-- ---- families: where the waiters of their objects stand
 
-pub mutex-unwaited : {t : Table} → Queued t → (m : ℕ) → m < mutexCount → Empty (mutexQueue m) t
-    → (j : ℕ) → j < taskCount → taskOf t j .state ≡ waitsMutex → taskOf t j .object ≢ m
-mutex-unwaited {t} q m l z j n e x = empty-none q (mutexQueue m) (omega arith) z j n (mutex-place (taskOf t j) e ∙ ap mutexQueue x)
+pub record Placed (f : Family) : Type 1 where
+  -- its queues are objects' queues
+  pub queues : ableQueue < f .first
+  pub range : f .first + f .count ≤ queueCount
+  -- who waits for one stands in its queue, and who stands there waits for it
+  pub place : (k : Task) → k .state ≡ f .state → placeOf k ≡ waitersOf f (k .object)
+  pub there : (k : Task) (o : ℕ) → TaskInRange k → o < f .count → placeOf k ≡ waitersOf f o → (k .state ≡ f .state) × (k .object ≡ o)
+  -- it is one of the families
+  pub among : {P : Family → Type 0} → OfEach P → P f
+
+pub semaphores-placed : Placed semaphores
+semaphores-placed =
+    record { queues = omega arith; range = omega arith; place = semaphore-place; there = λ k o r. semaphore-there k o; among = λ r. r .semaphore }
+
+pub mutexes-placed : Placed mutexes
+mutexes-placed =
+    record { queues = omega arith; range = omega arith; place = mutex-place; there = λ k m r l. mutex-there k m l (semaphore-range r); among = λ r. r .mutex }
+
+module _ {f : Family} (k : Placed f) {t : Table} (q : Queued t) (o : ℕ) (l : o < f .count) where
+  -- Where an object's queue is empty, nobody waits for it.
+  pub unwaited : Empty (waitersOf f o) t → (j : ℕ) → j < taskCount → taskOf t j .state ≡ f .state → taskOf t j .object ≢ o
+  unwaited z j m e x = empty-none q (waitersOf f o) (omega (arith, k .range)) z j m (k .place (taskOf t j) e ∙ ap (waitersOf f) x)
+
+  -- "a free number has .. no queue"; what has something to take has no waiter.
+  pub no-queue : TasksRight t → ObjectsRight t → (f .used t o ≢ 1) ⊎ (f .offers t o ≡ true) → Empty (waitersOf f o) t
+  no-queue tasks objects why =
+      none-empty q (waitersOf f o) (omega (arith, k .range))
+      (λ j m p.
+      let (e, x) = k .there (taskOf t j) o (tasks j m .inRange) l p in
+      let w : MayWait f t j o = subst (MayWait f t j) x (k .among (objects .waits j m) e) in
+      ⊎-elim (λ n. n (w .used)) (w .nothing) why)

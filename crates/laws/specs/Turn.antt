@@ -14,7 +14,6 @@ use Rattle.rules.specs.Tick.{turned, ticked}
 use Rattle.rules.specs.Sound.{Sound}
 use Rattle.rules.specs.declared.Task.{Task}
 use Rattle.rules.specs.declared.Call.the-variants.{Tick}
-use Rattle.laws.specs.Settled.{sound-settled, sound-runs}
 use Rattle.laws.specs.Put.{task-put-same, part-put, place-same}
 use Rattle.laws.specs.Queues.{same-queued}
 use Rattle.laws.specs.Stands.{able}
@@ -102,7 +101,7 @@ module _ (interrupt : Bool) {a b : ℕ} (two : Two a b) where
   unfolding ticked
   ticked-risen {t} s x y =
       risen-on two (same-risen two (tick-fit n (sound-fit s)) refl refl)
-      (λ f. risen-on two (turned-risen f (omega (arith, s .inRange .running)) (caller-able (sound-settled s .queued) (sound-runs s)) (λ r. x (earlier r)) (λ r. y (earlier r))) (λ g. dues-risen two taskCount (omega arith) g))
+      (λ f. risen-on two (turned-risen f (omega (arith, s .runs .range)) (caller-able (s .settled .queued) (s .runs)) (λ r. x (earlier r)) (λ r. y (earlier r))) (λ g. dues-risen two taskCount (omega arith) g))
     where
       n : ℕ
       n = (t .tick + 1) % ticksRound

@@ -6,7 +6,7 @@ use Prim.Native.Nat.{ℕ}
 use lib.ListN.{replicate}
 use Rattle.queue.specs.Slots.{firstAt, later, push, pull, opened, closed}
 use Rattle.queue.specs.Order.{count, mayPrecede, fits, isOrdered}
-use Rattle.rules.specs.Sound.{each, isShaped, objectsIn, marksIn, isTaskInRange, isInRange, isNoTask, isNoSemaphore, isNoMutex, isFreeZero, isQueued, isWaited, isWorked, isHeldRight, isTimed, runsRight, isSound}
+use Rattle.rules.specs.Sound.{each, isShaped, objectsIn, marksIn, isTaskInRange, isNoTask, isNoSemaphore, isNoMutex, isTaskRight, isSemaphoreRight, isMutexRight, mayWait, isWaitRight, isObjectsRight, isQueued, isWorked, isSettled, runsRight, isSound}
 use Rattle.rules.specs.Sizes.{mostCount, delayed, plain, timedOut}
 use Rattle.rules.specs.Chain.{leads, smallest, fresh}
 use Rattle.rules.specs.Walk.{walkOn}
@@ -141,7 +141,7 @@ pub record Bench : Type 0 where
   pub is-given : (taskOf (after suspended-waiter (SemaphorePost 0 ∷ [])) 1 .state ≡ plain) × (runs suspended-waiter (SemaphorePost 0 ∷ Resume 1 ∷ []) ≡ written 2 ∷ written 1 ∷ [])
 
 pub bench : Bench
-unfolding firstAt later push pull opened closed leads smallest fresh walkOn freshTable isAble placeOf works leave join stays put rotate holderOf next freshIn ended endedAll chosen peerBelow createAnswer create suspendAnswer suspend resumeAnswer resume delayAnswer delay lockAnswer lock unlockAnswer unlock objectCreateAnswer blocked waits taken semaphoreCreate semaphoreWaitAnswer semaphoreWait semaphorePostAnswer semaphorePost mutexCreate mutexWaitAnswer mutexWait mutexPostAnswer handed released mutexPost turned dueEnded dueBelow ticked answerTo changeBy forInterrupts answer effect serve ofKind reading little widths sum numbers bodyLength callIn decimal runner line printedOf printed tape step count mayPrecede fits isOrdered each isShaped objectsIn marksIn isTaskInRange isInRange isNoTask isNoSemaphore isNoMutex isFreeZero isQueued isWaited isWorked isHeldRight isTimed runsRight isSound after answers runs
+unfolding firstAt later push pull opened closed leads smallest fresh walkOn freshTable isAble placeOf works leave join stays put rotate holderOf next freshIn ended endedAll chosen peerBelow createAnswer create suspendAnswer suspend resumeAnswer resume delayAnswer delay lockAnswer lock unlockAnswer unlock objectCreateAnswer blocked waits taken semaphoreCreate semaphoreWaitAnswer semaphoreWait semaphorePostAnswer semaphorePost mutexCreate mutexWaitAnswer mutexWait mutexPostAnswer handed released mutexPost turned dueEnded dueBelow ticked answerTo changeBy forInterrupts answer effect serve ofKind reading little widths sum numbers bodyLength callIn decimal runner line printedOf printed tape step count mayPrecede fits isOrdered each isShaped objectsIn marksIn isTaskInRange isNoTask isNoSemaphore isNoMutex isTaskRight isSemaphoreRight isMutexRight mayWait isWaitRight isObjectsRight isQueued isWorked isSettled runsRight isSound after answers runs
 bench =
     record {
       p1 = refl;

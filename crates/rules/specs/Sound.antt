@@ -2,14 +2,17 @@
 use mathlib.Core.Path.{_≡_}
 use mathlib.Core.Logic.{_⊎_}
 use mathlib.Core.Bool.{Bool, true, false, cond, not, _&&_, _||_}
-use Prim.Native.Nat.{ℕ, zero, suc, _+_, _-_, _≤_, _<_}
+use Prim.Native.Nat.{ℕ, zero, suc, _-_, _≤_, _<_}
 use lib.Dec.{eqb, ltb, leb}
 use lib.ListN.{length}
 use Rattle.queue.specs.Order.{All, Ordered, count, isOrdered}
 use Rattle.rules.specs.Sizes.{taskCount, semaphoreCount, mutexCount, lastPriority, mostNested, mostQuantum, mostCount, ticksRound, plain, delayed, waitsSemaphore, waitsMutex, objectDeleted}
 use Rattle.rules.specs.Chain.{Fresh}
-use Rattle.rules.specs.Table.{Table, taskOf, semaphoreOf, mutexOf, queueOf, queueCount, ableQueue, semaphoreQueue, mutexQueue, firstIn, works, placeOf, isAble, written, noTask, noSemaphore, noMutex}
+use Rattle.rules.specs.Table.{Table, taskOf, semaphoreOf, mutexOf, queueOf, queueCount, ableQueue, firstIn, works, placeOf, isAble, written, noTask, noSemaphore, noMutex}
 use Rattle.rules.specs.Move.{next, baseOf, freshIn}
+use Rattle.rules.specs.Family.{Family}
+use Rattle.rules.specs.Semaphore.{semaphores}
+use Rattle.rules.specs.Mutex.{mutexes}
 use Rattle.rules.specs.declared.Task.{Task}
 use Rattle.rules.specs.declared.Semaphore.{Semaphore}
 use Rattle.rules.specs.declared.Mutex.{Mutex}
@@ -34,9 +37,6 @@ once b = cond b 1 0
 -- The queue is empty. (Queues are packed, so its front slot tells.)
 abbrev pub Empty : ℕ → Table → Type 0
 Empty q t = firstIn q t ≡ 0
-
-abbrev pub isEmpty : ℕ → Table → Bool
-isEmpty q t = eqb (firstIn q t) 0
 
 -- ---- the lists are as long as the paper's sizes say
 
@@ -92,30 +92,7 @@ isTaskInRange k =
     && (ltb (k .due) (marksIn (k .marked))
     && leb (k .outcome) objectDeleted)))))))))
 
-pub record InRange (t : Table) : Type 0 where
-  pub tasks : Each taskCount (λ i. TaskInRange (taskOf t i))
-  pub semaphores : Each semaphoreCount (λ s. (semaphoreOf t s .used ≤ 1) × (semaphoreOf t s .count ≤ mostCount))
-  pub mutexes : Each mutexCount (λ m. (mutexOf t m .used ≤ 1) × (mutexOf t m .holder ≤ taskCount) × (mutexOf t m .nesting ≤ mostNested))
-  pub tick : t .tick < ticksRound
-  pub depth : t .depth ≤ mostNested
-  pub running : t .running ≤ taskCount
-
-unfoldable pub isInRange : Table → Bool
-isInRange t =
-    each taskCount (λ i. isTaskInRange (taskOf t i))
-    && (each semaphoreCount (λ s. leb (semaphoreOf t s .used) 1 && leb (semaphoreOf t s .count) mostCount)
-    && (each mutexCount (λ m. leb (mutexOf t m .used) 1 && (leb (mutexOf t m .holder) taskCount && leb (mutexOf t m .nesting) mostNested))
-    && (ltb (t .tick) ticksRound
-    && (leb (t .depth) mostNested
-    && leb (t .running) taskCount))))
-
--- ---- "a free number has zero fields, no queue and no place in a queue"
-
-pub record FreeZero (t : Table) : Type 0 where
-  pub tasks : Each taskCount (λ i. taskOf t i .used ≡ 0 → taskOf t i ≡ noTask)
-  pub places : Each taskCount (λ i. taskOf t i .used ≡ 0 → Each queueCount (λ q. count (written i) (queueOf t q) ≡ 0))
-  pub semaphores : Each semaphoreCount (λ s. semaphoreOf t s .used ≡ 0 → (semaphoreOf t s ≡ noSemaphore) × Empty (semaphoreQueue s) t)
-  pub mutexes : Each mutexCount (λ m. mutexOf t m .used ≡ 0 → (mutexOf t m ≡ noMutex) × Empty (mutexQueue m) t)
+-- ---- "a free number has zero fields"
 
 -- Every field of the record is 0.
 unfoldable pub isNoTask : Task → Bool
@@ -138,94 +115,168 @@ isNoSemaphore x = eqb (x .used) 0 && eqb (x .count) 0
 unfoldable pub isNoMutex : Mutex → Bool
 isNoMutex x = eqb (x .used) 0 && (eqb (x .holder) 0 && eqb (x .nesting) 0)
 
-unfoldable pub isFreeZero : Table → Bool
-isFreeZero t =
-    each taskCount (λ i. implies (eqb (taskOf t i .used) 0) (isNoTask (taskOf t i)))
-    && (each taskCount (λ i. implies (eqb (taskOf t i .used) 0) (each queueCount (λ q. eqb (count (written i) (queueOf t q)) 0)))
-    && (each semaphoreCount (λ s. implies (eqb (semaphoreOf t s .used) 0) (isNoSemaphore (semaphoreOf t s) && isEmpty (semaphoreQueue s) t))
-    && each mutexCount (λ m. implies (eqb (mutexOf t m .used) 0) (isNoMutex (mutexOf t m) && isEmpty (mutexQueue m) t))))
+-- ---- a task
 
--- ---- the standing rules
+pub record TaskRight (k : Task) : Type 0 where
+  -- "All fields are in range; a free number has zero fields"
+  pub inRange : TaskInRange k
+  pub freeZero : k .used ≡ 0 → k ≡ noTask
+  -- "A plain task has no due mark", "What is left is at most the quantum."
+  pub plainMark : k .state ≡ plain → k .marked ≡ 0
+  pub left : k .left ≤ k .quantum
 
-pub record Sound (t : Table) : Type 0 where
+unfoldable pub isTaskRight : Task → Bool
+isTaskRight k =
+    isTaskInRange k
+    && (implies (eqb (k .used) 0) (isNoTask k)
+    && (implies (eqb (k .state) plain) (eqb (k .marked) 0)
+    && leb (k .left) (k .quantum)))
+
+abbrev pub TasksRight : Table → Type 0
+TasksRight t = Each taskCount (λ i. TaskRight (taskOf t i))
+
+-- "a delayed one has one"; apart, since a task that has left its queue is delayed without a mark until its chain has moved
+abbrev pub DelaysMarked : Table → Type 0
+DelaysMarked t = Each taskCount (λ i. taskOf t i .state ≡ delayed → taskOf t i .marked ≡ 1)
+
+-- ---- an object
+
+pub record SemaphoreRight (x : Semaphore) : Type 0 where
+  pub used : x .used ≤ 1
+  pub count : x .count ≤ mostCount
+  pub free : x .used ≡ 0 → x ≡ noSemaphore
+
+unfoldable pub isSemaphoreRight : Semaphore → Bool
+isSemaphoreRight x = leb (x .used) 1 && (leb (x .count) mostCount && implies (eqb (x .used) 0) (isNoSemaphore x))
+
+-- "A free mutex has nesting 0"; a held one has "a nesting of 1 to 250"
+pub record MutexRight (x : Mutex) : Type 0 where
+  pub used : x .used ≤ 1
+  pub holder : x .holder ≤ taskCount
+  pub nesting : x .nesting ≤ mostNested
+  pub free : x .used ≡ 0 → x ≡ noMutex
+  pub unheld : x .holder ≡ 0 → x .nesting ≡ 0
+  pub held : (x .holder ≡ 0 → ⊥) → 1 ≤ x .nesting
+
+unfoldable pub isMutexRight : Mutex → Bool
+isMutexRight x =
+    leb (x .used) 1
+    && (leb (x .holder) taskCount
+    && (leb (x .nesting) mostNested
+    && (implies (eqb (x .used) 0) (isNoMutex x)
+    && (implies (eqb (x .holder) 0) (eqb (x .nesting) 0)
+    && implies (not (eqb (x .holder) 0)) (leb 1 (x .nesting))))))
+
+-- Task i may wait for number o of the family: "Waited-for objects are in use"; what has something to take has no waiter ("A free mutex has
+-- .. no waiter", "a semaphore with a waiter has count 0"); "a holder .. does not wait for the mutex it holds".
+pub record MayWait (f : Family) (t : Table) (i o : ℕ) : Type 0 where
+  pub used : f .used t o ≡ 1
+  pub nothing : f .offers t o ≡ true → ⊥
+  pub apart : f .holder t o ≡ i → ⊥
+
+unfoldable pub mayWait : Family → Table → ℕ → ℕ → Bool
+mayWait f t i o = eqb (f .used t o) 1 && (not (f .offers t o) && not (eqb (f .holder t o) i))
+
+-- Of each family.
+pub record OfEach (P : Family → Type 0) : Type 0 where
+  pub semaphore : P semaphores
+  pub mutex : P mutexes
+
+-- Task i may be in that state, for that object.
+abbrev pub WaitRight : Table → (i state object : ℕ) → Type 0
+WaitRight t i state object = OfEach (λ f. state ≡ f .state → MayWait f t i object)
+
+unfoldable pub isWaitRight : Table → (i state object : ℕ) → Bool
+isWaitRight t i state object = implies (eqb state (semaphores .state)) (mayWait semaphores t i object) && implies (eqb state (mutexes .state)) (mayWait mutexes t i object)
+
+pub record ObjectsRight (t : Table) : Type 0 where
+  pub semaphores : Each semaphoreCount (λ s. SemaphoreRight (semaphoreOf t s))
+  pub mutexes : Each mutexCount (λ m. MutexRight (mutexOf t m))
+  pub waits : Each taskCount (λ i. WaitRight t i (taskOf t i .state) (taskOf t i .object))
+  -- "a holder is in use"
+  pub holders : Each mutexCount (λ m. (mutexOf t m .holder ≡ 0 → ⊥) → taskOf t (mutexOf t m .holder - 1) .used ≡ 1)
+
+unfoldable pub isObjectsRight : Table → Bool
+isObjectsRight t =
+    each semaphoreCount (λ s. isSemaphoreRight (semaphoreOf t s))
+    && (each mutexCount (λ m. isMutexRight (mutexOf t m))
+    && (each taskCount (λ i. isWaitRight t i (taskOf t i .state) (taskOf t i .object))
+    && each mutexCount (λ m. implies (not (eqb (mutexOf t m .holder) 0)) (eqb (taskOf t (mutexOf t m .holder - 1) .used) 1))))
+
+-- ---- the queues
+
+-- "The able queue holds each able task once and nothing else; each object's queue holds each of its waiters once and nothing else." "Queues
+-- are ordered."
+pub record Queued (t : Table) : Type 0 where
   pub shaped : Shaped t
-  -- "All fields are in range; a free number has zero fields, no queue and no place in a queue."
-  pub inRange : InRange t
-  pub freeZero : FreeZero t
-  -- "The able queue holds each able task once and nothing else; each object's queue holds each of its waiters once and nothing else."
-  pub able : Each taskCount (λ i. count (written i) (queueOf t ableQueue) ≡ once (isAble (taskOf t i)))
-  pub waiters : Each queueCount (λ q. (q ≡ ableQueue → ⊥) → Each taskCount (λ i. count (written i) (queueOf t q) ≡ once (eqb (placeOf (taskOf t i)) q)))
+  pub places : Each queueCount (λ q. Each taskCount (λ i. count (written i) (queueOf t q) ≡ once (eqb (placeOf (taskOf t i)) q)))
   pub nothingElse : Each queueCount (λ q. All (λ v. v ≤ taskCount) (queueOf t q))
-  -- "Waited-for objects are in use."
-  pub semaphoresInUse : Each taskCount (λ i. taskOf t i .state ≡ waitsSemaphore → semaphoreOf t (taskOf t i .object) .used ≡ 1)
-  pub mutexesInUse : Each taskCount (λ i. taskOf t i .state ≡ waitsMutex → mutexOf t (taskOf t i .object) .used ≡ 1)
-  -- "Queues are ordered."
   pub ordered : Each queueCount (λ q. Ordered (works t) (queueOf t q))
-  -- "Working priorities equal those worked out afresh (mission, 3)."
-  pub worked : Each taskCount (λ i. Fresh taskCount (next t) (baseOf t) i (taskOf t i .work))
-  -- "A free mutex has nesting 0 and no waiter"; a held one has "a nesting of 1 to 250"
-  pub freeMutexes : Each mutexCount (λ m. mutexOf t m .holder ≡ 0 → (mutexOf t m .nesting ≡ 0) × Empty (mutexQueue m) t)
-  pub heldMutexes : Each mutexCount (λ m. (mutexOf t m .holder ≡ 0 → ⊥) → 1 ≤ mutexOf t m .nesting)
-  -- "a holder is in use and does not wait for the mutex it holds"
-  pub holdersInUse : Each mutexCount (λ m. (mutexOf t m .holder ≡ 0 → ⊥) → taskOf t (mutexOf t m .holder - 1) .used ≡ 1)
-  pub holdersApart : Each mutexCount (λ m. (mutexOf t m .holder ≡ 0 → ⊥) → placeOf (taskOf t (mutexOf t m .holder - 1)) ≡ mutexQueue m → ⊥)
-  -- "a semaphore with a waiter has count 0"
-  pub counts : Each semaphoreCount (λ s. (Empty (semaphoreQueue s) t → ⊥) → semaphoreOf t s .count ≡ 0)
-  -- "A plain task has no due mark, a delayed one has one, a waiter may; no mark equals the tick counter."
-  pub plainMarks : Each taskCount (λ i. taskOf t i .state ≡ plain → taskOf t i .marked ≡ 0)
-  pub delayMarks : Each taskCount (λ i. taskOf t i .state ≡ delayed → taskOf t i .marked ≡ 1)
-  pub notDue : Each taskCount (λ i. taskOf t i .marked ≡ 1 → taskOf t i .due ≡ t .tick → ⊥)
-  -- "What is left is at most the quantum."
-  pub left : Each taskCount (λ i. taskOf t i .left ≤ taskOf t i .quantum)
-  -- "At lock depth 0 the running task is the first of the able queue, or none if that is empty; at greater depth it is an able task
-  -- or none."
-  pub runsFirst : t .depth ≡ 0 → t .running ≡ firstIn ableQueue t
-  pub runsAble : (t .depth ≡ 0 → ⊥) → (t .running ≡ 0) ⊎ (isAble (taskOf t (t .running - 1)) ≡ true)
-
--- ---- the test
 
 unfoldable pub isQueued : Table → Bool
 isQueued t =
-    each taskCount (λ i. eqb (count (written i) (queueOf t ableQueue)) (once (isAble (taskOf t i))))
-    && (each queueCount (λ q. implies (not (eqb q ableQueue)) (each taskCount (λ i. eqb (count (written i) (queueOf t q)) (once (eqb (placeOf (taskOf t i)) q)))))
+    isShaped t
+    && (each queueCount (λ q. each taskCount (λ i. eqb (count (written i) (queueOf t q)) (once (eqb (placeOf (taskOf t i)) q))))
     && each queueCount (λ q. isOrdered (works t) (queueOf t q)))
 
-unfoldable pub isWaited : Table → Bool
-isWaited t =
-    each taskCount (λ i. implies (eqb (taskOf t i .state) waitsSemaphore) (eqb (semaphoreOf t (taskOf t i .object) .used) 1))
-    && each taskCount (λ i. implies (eqb (taskOf t i .state) waitsMutex) (eqb (mutexOf t (taskOf t i .object) .used) 1))
+-- ---- the working priorities
+
+-- "Working priorities equal those worked out afresh (mission, 3)."
+abbrev pub WorkedOut : Table → Type 0
+WorkedOut t = Each taskCount (λ i. Fresh taskCount (next t) (baseOf t) i (taskOf t i .work))
 
 unfoldable pub isWorked : Table → Bool
 isWorked t = each taskCount (λ i. eqb (taskOf t i .work) (freshIn t i))
 
-unfoldable pub isHeldRight : Table → Bool
-isHeldRight t =
-    each mutexCount (λ m. implies (eqb (mutexOf t m .holder) 0) (eqb (mutexOf t m .nesting) 0 && isEmpty (mutexQueue m) t))
-    && (each mutexCount (λ m. implies (not (eqb (mutexOf t m .holder) 0)) (leb 1 (mutexOf t m .nesting)))
-    && (each mutexCount (λ m. implies (not (eqb (mutexOf t m .holder) 0)) (eqb (taskOf t (mutexOf t m .holder - 1) .used) 1))
-    && (each mutexCount (λ m. implies (not (eqb (mutexOf t m .holder) 0)) (not (eqb (placeOf (taskOf t (mutexOf t m .holder - 1))) (mutexQueue m))))
-    && each semaphoreCount (λ s. implies (not (isEmpty (semaphoreQueue s) t)) (eqb (semaphoreOf t s .count) 0)))))
+-- ---- what each move of a call keeps
 
-unfoldable pub isTimed : Table → Bool
-isTimed t =
-    each taskCount (λ i. implies (eqb (taskOf t i .state) plain) (eqb (taskOf t i .marked) 0))
+pub record Settled (t : Table) : Type 0 where
+  pub queued : Queued t
+  pub worked : WorkedOut t
+  pub tasks : TasksRight t
+  pub delays : DelaysMarked t
+  pub objects : ObjectsRight t
+  pub tick : t .tick < ticksRound
+  pub depth : t .depth ≤ mostNested
+
+unfoldable pub isSettled : Table → Bool
+isSettled t =
+    isQueued t
+    && (isWorked t
+    && (each taskCount (λ i. isTaskRight (taskOf t i))
     && (each taskCount (λ i. implies (eqb (taskOf t i .state) delayed) (eqb (taskOf t i .marked) 1))
-    && (each taskCount (λ i. implies (eqb (taskOf t i .marked) 1) (not (eqb (taskOf t i .due) (t .tick))))
-    && each taskCount (λ i. leb (taskOf t i .left) (taskOf t i .quantum))))
+    && (isObjectsRight t
+    && (ltb (t .tick) ticksRound
+    && leb (t .depth) mostNested)))))
+
+-- ---- what holds between calls alone
+
+-- "no mark equals the tick counter"
+abbrev pub NotDue : Table → Type 0
+NotDue t = Each taskCount (λ i. taskOf t i .marked ≡ 1 → taskOf t i .due ≡ t .tick → ⊥)
+
+-- "At lock depth 0 the running task is the first of the able queue, or none if that is empty; at greater depth it is an able task
+-- or none."
+pub record RunsRight (t : Table) : Type 0 where
+  pub range : t .running ≤ taskCount
+  pub first : t .depth ≡ 0 → t .running ≡ firstIn ableQueue t
+  pub able : (t .depth ≡ 0 → ⊥) → (t .running ≡ 0) ⊎ (isAble (taskOf t (t .running - 1)) ≡ true)
 
 unfoldable pub runsRight : Table → Bool
 runsRight t =
-    implies (eqb (t .depth) 0) (eqb (t .running) (firstIn ableQueue t))
-    && implies (not (eqb (t .depth) 0)) (eqb (t .running) 0 || isAble (taskOf t (t .running - 1)))
+    leb (t .running) taskCount
+    && (implies (eqb (t .depth) 0) (eqb (t .running) (firstIn ableQueue t))
+    && implies (not (eqb (t .depth) 0)) (eqb (t .running) 0 || isAble (taskOf t (t .running - 1))))
+
+-- ---- the standing rules
+
+pub record Sound (t : Table) : Type 0 where
+  pub settled : Settled t
+  pub notDue : NotDue t
+  pub runs : RunsRight t
 
 unfoldable pub isSound : Table → Bool
 isSound t =
-    isShaped t
-    && (isInRange t
-    && (isFreeZero t
-    && (isQueued t
-    && (isWaited t
-    && (isWorked t
-    && (isHeldRight t
-    && (isTimed t
-    && runsRight t)))))))
+    isSettled t
+    && (each taskCount (λ i. implies (eqb (taskOf t i .marked) 1) (not (eqb (taskOf t i .due) (t .tick))))
+    && runsRight t)

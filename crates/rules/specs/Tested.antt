@@ -4,7 +4,6 @@ use mathlib.Core.Logic.{⊎-elim}
 use mathlib.Core.Bool.{Bool, true, false}
 use mathlib.Core.List.{List}
 use Prim.Native.Nat.{ℕ, _-_, _≤_, _<_}
-use native.Mathlib.Decide.{ℕ-discrete}
 use native.Mathlib.Omega.{arith}
 use lib.Dec.{eqb}
 use lib.ListN.{length, List·getD-eq-default, length-map}
@@ -15,13 +14,16 @@ use Rattle.queue.specs.Checked.{whole-checked, checked-whole}
 use Rattle.rules.specs.Sizes.{taskCount}
 use Rattle.rules.specs.Chain.{Ends, Fresh, fresh}
 use Rattle.rules.specs.Afresh.{lt-or-le, fresh-is, fresh-one}
-use Rattle.rules.specs.Table.{Table, taskOf, semaphoreOf, mutexOf, queueOf, ableQueue, written, isAble, placeOf, works, noTask, noSemaphore, noMutex}
+use Rattle.rules.specs.Table.{Table, taskOf, semaphoreOf, mutexOf, written, placeOf, works, noTask, noSemaphore, noMutex}
 use Rattle.rules.specs.Move.{next, freshIn}
 use Rattle.rules.specs.declared.Task.{Task}
 use Rattle.rules.specs.declared.Semaphore.{Semaphore}
 use Rattle.rules.specs.declared.Mutex.{Mutex}
-use Rattle.rules.specs.Sound.{Each, once, Shaped, isShaped, TaskInRange, isTaskInRange, InRange, isInRange, FreeZero, isNoTask, isNoSemaphore, isNoMutex, isFreeZero, Sound, isQueued, isWaited, isWorked, isHeldRight, isTimed, runsRight, isSound}
-use Rattle.rules.specs.Decides.{Decides, equals, at-most, itself, fails, if-so, either, first, last, both, each-one}
+use Rattle.rules.specs.Sound.{Each, once, Shaped, isShaped, TaskInRange, isTaskInRange, isNoTask, isNoSemaphore, isNoMutex, TaskRight, isTaskRight, SemaphoreRight, isSemaphoreRight, MutexRight, isMutexRight, MayWait, mayWait, WaitRight, isWaitRight, ObjectsRight, isObjectsRight, Queued, isQueued, isWorked, Settled, isSettled, RunsRight, runsRight, Sound, isSound}
+use Rattle.rules.specs.Family.{Family}
+use Rattle.rules.specs.Semaphore.{semaphores}
+use Rattle.rules.specs.Mutex.{mutexes}
+use Rattle.rules.specs.Decides.{Decides, equals, at-most, itself, fails, if-so, either, first, last, each-one}
 
 -- ---- shape and ranges
 
@@ -50,17 +52,6 @@ task-in-range k =
     first (λ s. s .due) at-most λ due.
     last (λ s. s .outcome) at-most λ outcome.
     record { used = used; base = base; work = work; suspend = suspend; quantum = quantum; left = left; state = state; object = object; marked = marked; due = due; outcome = outcome }
-
-in-range : (t : Table) → Decides (isInRange t) (InRange t)
-unfolding isInRange
-in-range t =
-    first (λ s. s .tasks) (each-one λ i l. task-in-range (taskOf t i)) λ tasks.
-    first (λ s. s .semaphores) (each-one λ i l. both at-most at-most) λ semaphores.
-    first (λ s. s .mutexes) (each-one λ i l. first (λ m. m .0) at-most λ u. first (λ m. m .1) at-most λ h. last (λ m. m .2) at-most λ n. (u, h, n)) λ mutexes.
-    first (λ s. s .tick) at-most λ tick.
-    first (λ s. s .depth) at-most λ depth.
-    last (λ s. s .running) at-most λ running.
-    record { tasks = tasks; semaphores = semaphores; mutexes = mutexes; tick = tick; depth = depth; running = running }
 
 -- ---- free numbers
 
@@ -95,14 +86,59 @@ no-mutex x =
     last (ap λ (x : Mutex). x .nesting) equals λ nesting i.
     record { used = used i; holder = holder i; nesting = nesting i }
 
-free-zero : (t : Table) → Decides (isFreeZero t) (FreeZero t)
-unfolding isFreeZero
-free-zero t =
-    first (λ s. s .tasks) (each-one λ i l. if-so equals (no-task (taskOf t i))) λ tasks.
-    first (λ s. s .places) (each-one λ i l. if-so equals (each-one λ q m. equals)) λ places.
-    first (λ s. s .semaphores) (each-one λ i l. if-so equals (both (no-semaphore (semaphoreOf t i)) equals)) λ semaphores.
-    last (λ s. s .mutexes) (each-one λ i l. if-so equals (both (no-mutex (mutexOf t i)) equals)) λ mutexes.
-    record { tasks = tasks; places = places; semaphores = semaphores; mutexes = mutexes }
+-- ---- tasks and objects
+
+pub task-right : (k : Task) → Decides (isTaskRight k) (TaskRight k)
+unfolding isTaskRight
+task-right k =
+    first (λ r. r .inRange) (task-in-range k) λ inRange.
+    first (λ r. r .freeZero) (if-so equals (no-task k)) λ freeZero.
+    first (λ r. r .plainMark) (if-so equals equals) λ plainMark.
+    last (λ r. r .left) at-most λ left.
+    record { inRange = inRange; freeZero = freeZero; plainMark = plainMark; left = left }
+
+pub semaphore-right : (x : Semaphore) → Decides (isSemaphoreRight x) (SemaphoreRight x)
+unfolding isSemaphoreRight
+semaphore-right x =
+    first (λ r. r .used) at-most λ used.
+    first (λ r. r .count) at-most λ count.
+    last (λ r. r .free) (if-so equals (no-semaphore x)) λ free.
+    record { used = used; count = count; free = free }
+
+pub mutex-right : (x : Mutex) → Decides (isMutexRight x) (MutexRight x)
+unfolding isMutexRight
+mutex-right x =
+    first (λ r. r .used) at-most λ used.
+    first (λ r. r .holder) at-most λ holder.
+    first (λ r. r .nesting) at-most λ nesting.
+    first (λ r. r .free) (if-so equals (no-mutex x)) λ free.
+    first (λ r. r .unheld) (if-so equals equals) λ unheld.
+    last (λ r. r .held) (if-so (fails equals) at-most) λ held.
+    record { used = used; holder = holder; nesting = nesting; free = free; unheld = unheld; held = held }
+
+pub may-wait : (f : Family) (t : Table) (i o : ℕ) → Decides (mayWait f t i o) (MayWait f t i o)
+unfolding mayWait
+may-wait f t i o =
+    first (λ r. r .used) equals λ used.
+    first (λ r. r .nothing) (fails itself) λ nothing.
+    last (λ r. r .apart) (fails equals) λ apart.
+    record { used = used; nothing = nothing; apart = apart }
+
+pub wait-right : (t : Table) (i state object : ℕ) → Decides (isWaitRight t i state object) (WaitRight t i state object)
+unfolding isWaitRight
+wait-right t i state object =
+    first (λ r. r .semaphore) (if-so equals (may-wait semaphores t i object)) λ semaphore.
+    last (λ r. r .mutex) (if-so equals (may-wait mutexes t i object)) λ mutex.
+    record { semaphore = semaphore; mutex = mutex }
+
+pub objects-right : (t : Table) → Decides (isObjectsRight t) (ObjectsRight t)
+unfolding isObjectsRight
+objects-right t =
+    first (λ r. r .semaphores) (each-one λ s l. semaphore-right (semaphoreOf t s)) λ semaphores.
+    first (λ r. r .mutexes) (each-one λ m l. mutex-right (mutexOf t m)) λ mutexes.
+    first (λ r. r .waits) (each-one λ i l. wait-right t i (taskOf t i .state) (taskOf t i .object)) λ waits.
+    last (λ r. r .holders) (each-one λ m l. if-so (fails equals) equals) λ holders.
+    record { semaphores = semaphores; mutexes = mutexes; waits = waits; holders = holders }
 
 -- ---- queues
 
@@ -132,15 +168,16 @@ pub keyed : (t : Table) → Shaped t → length (works t) ≡ taskCount
 unfolding works
 keyed t s = length-map (t .tasks) (λ k. k .work) ∙ s .tasks
 
--- What the first two rules of the queues count is never more than one.
-alone : (t : Table) → Each taskCount (λ i. count (written i) (queueOf t ableQueue) ≡ once (isAble (taskOf t i)))
-    → (q : ℕ) → ((q ≡ ableQueue → ⊥) → Each taskCount (λ i. count (written i) (queueOf t q) ≡ once (eqb (placeOf (taskOf t i)) q)))
-    → Each taskCount (λ i. count (written i) (queueOf t q) ≤ 1)
-alone t able q waiters = go (ℕ-discrete q ableQueue)
-  where
-    go : Dec (q ≡ ableQueue) → Each taskCount (λ i. count (written i) (queueOf t q) ≤ 1)
-    go (yes e) i m = rw e (omega (arith, able i m, once-most (isAble (taskOf t i))))
-    go (no h) i m = omega (arith, waiters h i m, once-most (eqb (placeOf (taskOf t i)) q))
+queued : (t : Table) → Decides (isQueued t) (Queued t)
+unfolding isQueued
+queued t =
+    first (λ r. r .shaped) (shaped t) λ shaped.
+    first (λ r. r .places) (each-one λ q l. each-one λ i m. equals) λ places.
+    last
+    (λ r q l. (r .nothingElse q l, r .ordered q l))
+    (each-one λ q l. whole (keyed t shaped) (λ i m. omega (arith, places q l i m, once-most (eqb (placeOf (taskOf t i)) q))))
+    λ order.
+    record { shaped = shaped; places = places; nothingElse = λ q l. order q l .0; ordered = λ q l. order q l .1 }
 
 -- ---- working priorities
 
@@ -154,75 +191,35 @@ worked : {n : ℕ} {next : ℕ → ℕ} {base : ℕ → ℕ} {i p : ℕ} → End
 worked {n} {next} {base} {i} {p} e l =
     last (λ f. fresh-one f (fresh-is base e l)) equals λ q. subst (Fresh n next base i) (sym q) (fresh-is base e l)
 
--- ---- the standing rules, in the groups in which they are tested
+-- ---- the standing rules
 
-infixr 5 _and_
-abbrev _and_ : {A B : Type 0} → A → B → A × B
-a and b = (a, b)
+settled : (t : Table) → Decides (isSettled t) (Settled t)
+unfolding isSettled isWorked freshIn
+settled t =
+    first (λ s. s .queued) (queued t) λ queued.
+    first (λ s. s .worked) (each-one λ i l. worked (ends t (queued .shaped)) l) λ worked.
+    first (λ s. s .tasks) (each-one λ i l. task-right (taskOf t i)) λ tasks.
+    first (λ s. s .delays) (each-one λ i l. if-so equals equals) λ delays.
+    first (λ s. s .objects) (objects-right t) λ objects.
+    first (λ s. s .tick) at-most λ tick.
+    last (λ s. s .depth) at-most λ depth.
+    record { queued = queued; worked = worked; tasks = tasks; delays = delays; objects = objects; tick = tick; depth = depth }
 
-zip : {n : ℕ} {A B : ℕ → Type 0} → Each n A → Each n B → Each n (λ i. A i × B i)
-zip a b i l = (a i l, b i l)
+runs : (t : Table) → Decides (runsRight t) (RunsRight t)
+unfolding runsRight
+runs t =
+    first (λ r. r .range) at-most λ range.
+    first (λ r. r .first) (if-so equals equals) λ front.
+    last (λ r. r .able) (if-so (fails equals) (either equals itself)) λ able.
+    record { range = range; first = front; able = able }
 
 pub sound : (t : Table) → Decides (isSound t) (Sound t)
-unfolding isSound isQueued isWaited isWorked isHeldRight isTimed runsRight freshIn
+unfolding isSound
 sound t =
-    first (λ s. s .shaped) (shaped t) λ shaped.
-    first (λ s. s .inRange) (in-range t) λ inRange.
-    first (λ s. s .freeZero) (free-zero t) λ freeZero.
-    first
-    (λ s. s .able and s .waiters and zip (s .nothingElse) (s .ordered))
-    (first (λ r. r .0) (each-one λ i l. equals) λ able.
-    first (λ r. r .1 .0) (each-one λ q l. if-so (fails equals) (each-one λ i m. equals)) λ waiters.
-    last (λ r. r .1 .1) (each-one λ q l. whole (keyed t shaped) (alone t able q (waiters q l))) λ order.
-    able and waiters and order)
-    λ (able, (waiters, order)).
-    first
-    (λ s. s .semaphoresInUse and s .mutexesInUse)
-    (both (each-one λ i l. if-so equals equals) (each-one λ i l. if-so equals equals))
-    λ (semaphoresInUse, mutexesInUse).
-    first (λ s. s .worked) (each-one λ i l. worked (ends t shaped) l) λ worked.
-    first
-    (λ s. s .freeMutexes and s .heldMutexes and s .holdersInUse and s .holdersApart and s .counts)
-    (both (each-one λ m l. if-so equals (both equals equals))
-    (both (each-one λ m l. if-so (fails equals) at-most)
-    (both (each-one λ m l. if-so (fails equals) equals)
-    (both (each-one λ m l. if-so (fails equals) (fails equals))
-    (each-one λ m l. if-so (fails equals) equals)))))
-    λ (freeMutexes, (heldMutexes, (holdersInUse, (holdersApart, counts)))).
-    first
-    (λ s. s .plainMarks and s .delayMarks and s .notDue and s .left)
-    (both (each-one λ i l. if-so equals equals)
-    (both (each-one λ i l. if-so equals equals)
-    (both (each-one λ i l. if-so equals (fails equals))
-    (each-one λ i l. at-most))))
-    λ (plainMarks, (delayMarks, (notDue, left))).
-    last
-    (λ s. s .runsFirst and s .runsAble)
-    (both (if-so equals equals) (if-so (fails equals) (either equals itself)))
-    λ (runsFirst, runsAble).
-    record {
-      shaped = shaped;
-      inRange = inRange;
-      freeZero = freeZero;
-      able = able;
-      waiters = waiters;
-      nothingElse = λ q l. order q l .0;
-      semaphoresInUse = semaphoresInUse;
-      mutexesInUse = mutexesInUse;
-      ordered = λ q l. order q l .1;
-      worked = worked;
-      freeMutexes = freeMutexes;
-      heldMutexes = heldMutexes;
-      holdersInUse = holdersInUse;
-      holdersApart = holdersApart;
-      counts = counts;
-      plainMarks = plainMarks;
-      delayMarks = delayMarks;
-      notDue = notDue;
-      left = left;
-      runsFirst = runsFirst;
-      runsAble = runsAble;
-    }
+    first (λ s. s .settled) (settled t) λ settled.
+    first (λ s. s .notDue) (each-one λ i l. if-so equals (fails equals)) λ notDue.
+    last (λ s. s .runs) (runs t) λ runs.
+    record { settled = settled; notDue = notDue; runs = runs }
 
 pub sound-tested : {t : Table} → Sound t → isSound t ≡ true
 sound-tested {t} = sound t .passes

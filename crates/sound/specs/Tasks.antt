@@ -1,5 +1,5 @@
 -- The tests of a task by itself, what they say, and the order in which the code asks.
-use mathlib.Core.Path.{_≡_, refl, sym, ap, subst}
+use mathlib.Core.Path.{_≡_, refl, sym, subst}
 use mathlib.Core.Bool.{Bool, true, false, cond, not, _&&_, _||_}
 use mathlib.Core.List.{List}
 use Prim.Native.Nat.{ℕ, _≤_, _<_, min}
@@ -9,8 +9,11 @@ use borrow.Author.Tests.{eq-eqb, ne-eqb}
 use lib.Dec.{eqb, leb, ltb}
 use Rattle.rules.specs.Sizes.{taskCount, lastPriority, mostNested, mostQuantum, ticksRound, plain, delayed, waitsSemaphore, waitsMutex, objectDeleted}
 use Rattle.rules.specs.declared.Task.{Task}
-use Rattle.rules.specs.Table.{Table, taskOf, semaphoreOf, mutexOf, queueCount, placeOf, isAble, noTask}
-use Rattle.rules.specs.Sound.{Each, each, TaskInRange, isNoTask, objectsIn, marksIn}
+use Rattle.rules.specs.Table.{Table, taskOf, semaphoreOf, mutexOf, queueCount, placeOf, isAble, written, noTask}
+use Rattle.rules.specs.Semaphore.{semaphores}
+use Rattle.rules.specs.Mutex.{mutexes}
+use Rattle.rules.specs.Sound.{Each, each, TaskInRange, TaskRight, MayWait, WaitRight, isNoTask, objectsIn, marksIn}
+use Rattle.laws.specs.Linked.{may-awaited, awaited-may, may-apart, apart-may}
 use Rattle.rules.specs.Tested.{no-task}
 use Rattle.rules.specs.Decides.{Decides, equals, at-most, fails, first, last, both, each-one}
 use Rattle.sound.specs.Tests.{unless, by-cases, always}
@@ -40,34 +43,37 @@ isTimely tick k =
     && ((not (eqb (k .state) delayed) || eqb (k .marked) 1)
     && (not (eqb (k .marked) 1) || not (eqb (k .due) tick)))
 
--- "Waited-for objects are in use."
-unfoldable pub isServed : Table → Task → Bool
-isServed t k =
-    cond (eqb (k .state) waitsSemaphore) (eqb (semaphoreOf t (k .object) .used) 1)
-    (cond (eqb (k .state) waitsMutex) (eqb (mutexOf t (k .object) .used) 1) true)
+-- Task i waits for an object that is in use and has nothing to take, and whose holder it is not.
+unfoldable pub isServed : Table → ℕ → Task → Bool
+isServed t i k =
+    cond (eqb (k .state) waitsSemaphore) (eqb (semaphoreOf t (k .object) .used) 1 && eqb (semaphoreOf t (k .object) .count) 0)
+    (cond
+    (eqb (k .state) waitsMutex)
+    (eqb (mutexOf t (k .object) .used) 1 && (not (eqb (mutexOf t (k .object) .holder) 0) && not (eqb (mutexOf t (k .object) .holder) (written i))))
+    true)
 
 -- A task in use is fit, timely and served.
-unfoldable pub isUseRight : Table → Task → Bool
-isUseRight t k = (isFit k && isTimely (t .tick) k) && isServed t k
+unfoldable pub isUseRight : Table → ℕ → Task → Bool
+isUseRight t i k = (isFit k && isTimely (t .tick) k) && isServed t i k
 
 -- A free number is all zero.
-unfoldable pub isTaskRight : Table → Task → Bool
-isTaskRight t k = cond (eqb (k .used) 0) (isNoTask k) (isUseRight t k)
+unfoldable pub isTaskRight : Table → ℕ → Task → Bool
+isTaskRight t i k = cond (eqb (k .used) 0) (isNoTask k) (isUseRight t i k)
 
 -- The queue where a task stands, `queueCount` for none.
 unfoldable pub spotOf : Task → ℕ
 spotOf k = min (placeOf k) queueCount
 
 -- The same, and `queueCount + 1` for a task that is not right.
-unfoldable pub spotIn : Table → Task → ℕ
-spotIn t k = cond (isTaskRight t k) (spotOf k) 34
+unfoldable pub spotIn : Table → ℕ → Task → ℕ
+spotIn t i k = cond (isTaskRight t i k) (spotOf k) 34
 
 abbrev pub Spotted : Table → List ℕ → Type 0
 Spotted t spots = Shows spots (λ i. spotOf (taskOf t i)) taskCount
 
 -- What the pass over the tasks answers and leaves.
 pub record TasksPassed (t : Table) (r : Bool) (spots : List ℕ) : Type 0 where
-  pub test : r ≡ each taskCount (λ i. isTaskRight t (taskOf t i))
+  pub test : r ≡ each taskCount (λ i. isTaskRight t i (taskOf t i))
   pub tick : t .tick < ticksRound
   pub spotted : r ≡ true → Spotted t spots
 
@@ -78,16 +84,10 @@ pub record Timely (tick : ℕ) (k : Task) : Type 0 where
   pub delayMark : k .state ≡ delayed → k .marked ≡ 1
   pub notDue : k .marked ≡ 1 → k .due ≡ tick → ⊥
 
-pub record Served (t : Table) (k : Task) : Type 0 where
-  pub semaphore : k .state ≡ waitsSemaphore → semaphoreOf t (k .object) .used ≡ 1
-  pub mutex : k .state ≡ waitsMutex → mutexOf t (k .object) .used ≡ 1
-
-pub record TaskRight (t : Table) (k : Task) : Type 0 where
-  pub inRange : TaskInRange k
-  pub free : k .used ≡ 0 → k ≡ noTask
-  pub left : k .left ≤ k .quantum
+pub record TaskPassed (t : Table) (i : ℕ) (k : Task) : Type 0 where
+  pub right : TaskRight k
   pub timely : Timely (t .tick) k
-  pub served : Served t k
+  pub served : WaitRight t i (k .state) (k .object)
 
 timely : (tick : ℕ) (k : Task) → Decides (isTimely tick k) (Timely tick k)
 unfolding isTimely
@@ -97,23 +97,31 @@ timely tick k =
     last (λ r. r .notDue) (unless equals (fails equals)) λ n.
     record { plainMark = p; delayMark = d; notDue = n }
 
-served : (t : Table) (k : Task) → Decides (isServed t k) (Served t k)
-unfolding isServed
-served t k =
-    by-cases equals
-    (λ e. last (λ r. r .semaphore e) equals λ u. record { semaphore = λ q. u; mutex = λ q. absurd (omega arith) })
-    (λ n. by-cases equals
-    (λ e. last (λ r. r .mutex e) equals λ u. record { semaphore = λ q. absurd (n q); mutex = λ q. u })
-    (λ m. always (record { semaphore = λ q. absurd (n q); mutex = λ q. absurd (m q) })))
+module _ (t : Table) (i : ℕ) (l : i < taskCount) where
+  awaits : (o : ℕ) → Decides (eqb (semaphoreOf t o .used) 1 && eqb (semaphoreOf t o .count) 0) (MayWait semaphores t i o)
+  awaits o = last (may-awaited t i o) (first (λ r. r .used) equals λ used. last (λ r. r .count) equals λ count. record { used = used; count = count }) (awaited-may t i o l)
+
+  awaits-holder : (o : ℕ) → Decides (eqb (mutexOf t o .used) 1 && (not (eqb (mutexOf t o .holder) 0) && not (eqb (mutexOf t o .holder) (written i)))) (MayWait mutexes t i o)
+  awaits-holder o =
+      last (may-apart t i o l)
+      (first (λ r. r .used) equals λ used. first (λ r. r .held) (fails equals) λ held. last (λ r. r .apart) (fails equals) λ apart. record { used = used; held = held; apart = apart })
+      (apart-may t i o)
+
+  served : (k : Task) → Decides (isServed t i k) (WaitRight t i (k .state) (k .object))
+  unfolding isServed
+  served k =
+      by-cases equals
+      (λ e. last (λ r. r .semaphore e) (awaits (k .object)) λ u. record { semaphore = λ q. u; mutex = λ q. absurd (omega arith) })
+      (λ n. by-cases equals
+      (λ e. last (λ r. r .mutex e) (awaits-holder (k .object)) λ u. record { semaphore = λ q. absurd (n q); mutex = λ q. u })
+      (λ m. always (record { semaphore = λ q. absurd (n q); mutex = λ q. absurd (m q) })))
 
 -- The record of a free number is right.
-blank-right : (t : Table) → TaskRight t noTask
+blank-right : (t : Table) (i : ℕ) → TaskPassed t i noTask
 unfolding objectsIn marksIn
-blank-right t =
+blank-right t i =
     record {
-      inRange = record { used = omega arith; base = omega arith; work = omega arith; suspend = omega arith; quantum = omega arith; left = omega arith; state = omega arith; object = omega arith; marked = omega arith; due = omega arith; outcome = omega arith };
-      free = λ e. refl;
-      left = omega arith;
+      right = record { inRange = omega arith; freeZero = λ e. refl; plainMark = λ e. refl; left = omega arith };
       timely = record { plainMark = λ e. refl; delayMark = λ e. absurd (omega arith); notDue = λ e q. omega arith };
       served = record { semaphore = λ e. absurd (omega arith); mutex = λ e. absurd (omega arith) };
     }
@@ -144,19 +152,20 @@ fit k =
       left = left;
     }
 
-pub task-right : (t : Table) (k : Task) → Decides (isTaskRight t k) (TaskRight t k)
+pub task-right : (t : Table) (i : ℕ) → i < taskCount → (k : Task) → Decides (isTaskRight t i k) (TaskPassed t i k)
 unfolding isTaskRight isUseRight
-task-right t k =
+task-right t i l k =
     by-cases equals
-    (λ e. last (λ r. r .free e) (no-task k) λ z. subst (TaskRight t) (sym z) (blank-right t))
-    (λ n. first (λ r. (record { inRange = r .inRange; used = used n (r .inRange); left = r .left }, r .timely)) (both (fit k) (timely (t .tick) k)) λ (f, m).
-    last (λ r. r .served) (served t k) λ s. record { inRange = f .inRange; free = λ e. absurd (n e); left = f .left; timely = m; served = s })
+    (λ e. last (λ r. r .right .freeZero e) (no-task k) λ z. subst (TaskPassed t i) (sym z) (blank-right t i))
+    (λ n. first (λ r. (record { inRange = r .right .inRange; used = used n (r .right .inRange); left = r .right .left }, r .timely)) (both (fit k) (timely (t .tick) k)) λ (f, m).
+    last (λ r. r .served) (served t i l k) λ s.
+    record { right = record { inRange = f .inRange; freeZero = λ e. absurd (n e); plainMark = m .plainMark; left = f .left }; timely = m; served = s })
   where
     used : (k .used ≡ 0 → ⊥) → TaskInRange k → k .used ≡ 1
     used n r = omega (arith, r .used)
 
-pub tasks-right : (t : Table) → Decides (each taskCount (λ i. isTaskRight t (taskOf t i))) (Each taskCount (λ i. TaskRight t (taskOf t i)))
-tasks-right t = each-one (λ i l. task-right t (taskOf t i))
+pub tasks-right : (t : Table) → Decides (each taskCount (λ i. isTaskRight t i (taskOf t i))) (Each taskCount (λ i. TaskPassed t i (taskOf t i)))
+tasks-right t = each-one (λ i l. task-right t i l (taskOf t i))
 
 objects-most : (state : ℕ) → objectsIn state ≤ 16
 unfolding objectsIn
@@ -174,40 +183,40 @@ fit-object k e = omega (arith, fit k .holds e .inRange .object, objects-most (k 
 -- ---- the order in which the code asks
 
 -- One that is not blank is right where it is right as a task in use.
-use-right : (t : Table) (k : Task) → isNoTask k ≡ false → isTaskRight t k ≡ isUseRight t k
+use-right : (t : Table) (i : ℕ) (k : Task) → isNoTask k ≡ false → isTaskRight t i k ≡ isUseRight t i k
 unfolding isTaskRight isUseRight isFit
-use-right t k e = go (ℕ-discrete (k .used) 0)
+use-right t i k e = go (ℕ-discrete (k .used) 0)
   where
-    go : Dec (k .used ≡ 0) → isTaskRight t k ≡ isUseRight t k
+    go : Dec (k .used ≡ 0) → isTaskRight t i k ≡ isUseRight t i k
     go (yes z) = rw (eq-eqb (k .used) 0 z, e, ne-eqb (k .used) 1 (λ o. omega arith))
     go (no n) = rw (ne-eqb (k .used) 0 n)
 
 -- A blank number is right and stands nowhere.
-pub spot-blank : (t : Table) (k : Task) → isNoTask k ≡ true → 33 ≡ spotIn t k
+pub spot-blank : (t : Table) (i : ℕ) (k : Task) → isNoTask k ≡ true → 33 ≡ spotIn t i k
 unfolding spotIn isTaskRight spotOf placeOf isAble isNoTask
-spot-blank t k e = rw (no-task k .holds e) refl
+spot-blank t i k e = rw (no-task k .holds e) refl
 
-pub spot-used : (t : Table) (k : Task) (b : Bool) → isNoTask k ≡ false → isUseRight t k ≡ b → cond b (spotOf k) 34 ≡ spotIn t k
+pub spot-used : (t : Table) (i : ℕ) (k : Task) (b : Bool) → isNoTask k ≡ false → isUseRight t i k ≡ b → cond b (spotOf k) 34 ≡ spotIn t i k
 unfolding spotIn
-spot-used t k b e h = rw (use-right t k e, h) refl
+spot-used t i k b e h = rw (use-right t i k e, h) refl
 
 spot-most : (k : Task) → spotOf k ≤ 33
 unfolding spotOf
 spot-most k = omega arith
 
 -- The spot tells whether the task is right.
-pub spot-past : (t : Table) (k : Task) → 33 < spotIn t k → isTaskRight t k ≡ false
+pub spot-past : (t : Table) (i : ℕ) (k : Task) → 33 < spotIn t i k → isTaskRight t i k ≡ false
 unfolding spotIn
-spot-past t k h = go (isTaskRight t k) refl
+spot-past t i k h = go (isTaskRight t i k) refl
   where
-    go : (b : Bool) → isTaskRight t k ≡ b → isTaskRight t k ≡ false
+    go : (b : Bool) → isTaskRight t i k ≡ b → isTaskRight t i k ≡ false
     go true e = absurd (omega (arith, spot-most k, subst (λ (c : Bool). 33 < cond c (spotOf k) 34) e h))
     go false e = e
 
-pub spot-here : (t : Table) (k : Task) → spotIn t k ≤ 33 → (isTaskRight t k ≡ true) × (spotIn t k ≡ spotOf k)
+pub spot-here : (t : Table) (i : ℕ) (k : Task) → spotIn t i k ≤ 33 → (isTaskRight t i k ≡ true) × (spotIn t i k ≡ spotOf k)
 unfolding spotIn
-spot-here t k h = go (isTaskRight t k) refl
+spot-here t i k h = go (isTaskRight t i k) refl
   where
-    go : (b : Bool) → isTaskRight t k ≡ b → (isTaskRight t k ≡ true) × (spotIn t k ≡ spotOf k)
+    go : (b : Bool) → isTaskRight t i k ≡ b → (isTaskRight t i k ≡ true) × (spotIn t i k ≡ spotOf k)
     go true e = (e, rw e refl)
     go false e = absurd (omega (arith, subst (λ (c : Bool). cond c (spotOf k) 34 ≤ 33) e h))

@@ -1,18 +1,17 @@
-// The semaphores and the mutexes: their fields, who holds, and whether someone waits.
+// The semaphores and the mutexes: their fields, and who holds.
 ghost use mathlib.Core.Path.{_≡_};
 ghost use Prim.Native.Nat.{_<_};
-ghost use Rattle.rules.specs.Sound.{each};
+ghost use Rattle.rules.specs.Sound.{each, isSemaphoreRight};
 ghost use Rattle.table.specs.Image.{Image, view};
-ghost use Rattle.sound.specs.Objects.{isSemaphoreRight, semaphoreRight, isUnheldRight, isHeldBy, mutexRight};
+ghost use Rattle.sound.specs.Objects.{semaphoreRight, isUnheldRight, isHeldBy, mutexRight};
 
-// A semaphore, with the front slot of its queue.
-fn is_semaphore_right(x: rules::Semaphore, front: u8) -> bool
-    ensures { λ r. ⌜ r ≡ isSemaphoreRight x front ⌝ }
+fn is_semaphore_right(x: rules::Semaphore) -> bool
+    ensures { λ r. ⌜ r ≡ isSemaphoreRight x ⌝ }
 {
     if x.used == 0 {
-        return (x.count == 0) & (front == 0);
+        return x.count == 0;
     }
-    (x.used == 1) & ((front == 0) | (x.count == 0))
+    x.used == 1
 }
 
 pub fn are_semaphores_right(s: &[u8]) -> bool
@@ -22,8 +21,7 @@ pub fn are_semaphores_right(s: &[u8]) -> bool
     let mut i = 0;
     while i < 16 {
         let x = table::cells::get_semaphore(s, i);
-        let front = table::moves::first_in(s, 1 + i);
-        if !is_semaphore_right(x, front) {
+        if !is_semaphore_right(x) {
             return false;
         }
         i += 1;
@@ -31,23 +29,20 @@ pub fn are_semaphores_right(s: &[u8]) -> bool
     true
 }
 
-// A mutex that no one holds, with the front slot of its queue.
-fn is_unheld_right(x: rules::Mutex, front: u8) -> bool
-    ensures { λ r. ⌜ r ≡ isUnheldRight x front ⌝ }
+// A mutex that no one holds.
+fn is_unheld_right(x: rules::Mutex) -> bool
+    ensures { λ r. ⌜ r ≡ isUnheldRight x ⌝ }
 {
-    (x.used <= 1) & ((x.nesting == 0) & (front == 0))
+    (x.used <= 1) & (x.nesting == 0)
 }
 
-// A mutex that is held; m is its number.
-fn is_held_well(s: &[u8], m: usize, x: rules::Mutex) -> bool
-    requires { ⌜ (m < 16) × (0 < x .holder) × Image (now s) ⌝ }
-    ensures { λ r. ⌜ r ≡ isHeldBy (view (now (s .entry))) m x ⌝ }
+// A mutex that is held.
+fn is_held_well(s: &[u8], x: rules::Mutex) -> bool
+    requires { ⌜ (0 < x .holder) × Image (now s) ⌝ }
+    ensures { λ r. ⌜ r ≡ isHeldBy (view (now (s .entry))) x ⌝ }
 {
     let k = table::cells::task_at(s, x.holder as usize - 1);
-    let q = table::moves::place_of(k);
-    (x.used == 1)
-        & ((x.holder <= 32)
-            & ((1 <= x.nesting) & ((x.nesting <= 250) & ((k.used == 1) & (q != 17 + m)))))
+    (x.used == 1) & ((x.holder <= 32) & ((1 <= x.nesting) & ((x.nesting <= 250) & (k.used == 1))))
 }
 
 // Most mutexes are held by no one, in use or not, and so that is asked first.
@@ -56,11 +51,10 @@ fn is_mutex_right(s: &[u8], m: usize) -> bool
     ensures { λ r. ⌜ r ≡ mutexRight (view (now (s .entry))) m ⌝ }
 {
     let x = table::cells::get_mutex(s, m);
-    let front = table::moves::first_in(s, 17 + m);
     if x.holder == 0 {
-        return is_unheld_right(x, front);
+        return is_unheld_right(x);
     }
-    is_held_well(s, m, x)
+    is_held_well(s, x)
 }
 
 pub fn are_mutexes_right(s: &[u8]) -> bool

@@ -97,32 +97,32 @@ fn is_timely(k: rules::Task, tick: u32) -> bool
         & (((k.state != 1) | (k.marked == 1)) & ((k.marked != 1) | (k.due != tick)))
 }
 
-// Whether the object that it waits for is in use.
-fn is_served(s: &[u8], k: rules::Task) -> bool
-    requires { ⌜ (k .object < 16) × Image (now s) ⌝ }
-    ensures { λ r. ⌜ r ≡ isServed (view (now (s .entry))) k ⌝ }
+// Whether task i waits for an object that is in use and has nothing to take, and whose holder it is not.
+fn is_served(s: &[u8], i: usize, k: rules::Task) -> bool
+    requires { ⌜ (i < 32) × (k .object < 16) × Image (now s) ⌝ }
+    ensures { λ r. ⌜ r ≡ isServed (view (now (s .entry))) i k ⌝ }
 {
     if k.state == 2 {
         let x = table::cells::get_semaphore(s, k.object as usize);
-        return x.used == 1;
+        return (x.used == 1) & (x.count == 0);
     }
     if k.state == 3 {
         let x = table::cells::get_mutex(s, k.object as usize);
-        return x.used == 1;
+        return (x.used == 1) & ((x.holder != 0) & (x.holder as usize != i + 1));
     }
     true
 }
 
-// A task that is not blank.
-fn is_use_right(s: &[u8], k: rules::Task, tick: u32) -> bool
-    requires { ⌜ (tick ≡ view (now s) .tick) × Image (now s) ⌝ }
-    ensures { λ r. ⌜ r ≡ isUseRight (view (now (s .entry))) k ⌝ }
+// Task i, which is not blank.
+fn is_use_right(s: &[u8], i: usize, k: rules::Task, tick: u32) -> bool
+    requires { ⌜ (i < 32) × (tick ≡ view (now s) .tick) × Image (now s) ⌝ }
+    ensures { λ r. ⌜ r ≡ isUseRight (view (now (s .entry))) i k ⌝ }
 {
     let fit = is_fit(k) & is_timely(k, tick);
     if !fit {
         return false;
     }
-    is_served(s, k)
+    is_served(s, i, k)
 }
 
 // The queue where a task stands, 33 for none.
@@ -139,13 +139,13 @@ fn spot_of(k: rules::Task) -> u8
 // Where task i stands; 34 where it is not right. Most numbers are free, and so that is asked first, of the bytes as they are.
 fn spot_in(s: &[u8], i: usize, tick: u32) -> u8
     requires { ⌜ (i < 32) × (tick ≡ view (now s) .tick) × Image (now s) ⌝ }
-    ensures { λ r. ⌜ r ≡ spotIn (view (now (s .entry))) (taskOf (view (now (s .entry))) i) ⌝ }
+    ensures { λ r. ⌜ r ≡ spotIn (view (now (s .entry))) i (taskOf (view (now (s .entry))) i) ⌝ }
 {
     if is_free(s, i) {
         return 33;
     }
     let k = table::cells::get_task(s, i);
-    if !is_use_right(s, k, tick) {
+    if !is_use_right(s, i, k, tick) {
         return 34;
     }
     spot_of(k)

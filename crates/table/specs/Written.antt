@@ -94,14 +94,14 @@ task-fits k r = omega (arith, few-objects (k .state), few-marks (k .marked))
 pub sound-fits : {t : Table} → Sound t → Fits t
 sound-fits {t} s =
     record {
-      shaped = s .shaped;
-      tasks = λ i h. task-fits (taskOf t i) (s .inRange .tasks i h);
-      semaphores = λ i h. omega (arith, s .inRange .semaphores i h);
-      mutexes = λ i h. omega (arith, s .inRange .mutexes i h);
-      queues = λ q h j. omega (arith, all-at {P = λ v. v ≤ 32} (omega arith) (s .nothingElse q h) j);
-      tick = s .inRange .tick;
-      depth = omega arith;
-      running = omega arith;
+      shaped = s .settled .queued .shaped;
+      tasks = λ i h. task-fits (taskOf t i) (s .settled .tasks i h .inRange);
+      semaphores = λ i h. omega (arith, s .settled .objects .semaphores i h);
+      mutexes = λ i h. omega (arith, s .settled .objects .mutexes i h);
+      queues = λ q h j. omega (arith, all-at {P = λ v. v ≤ 32} (omega arith) (s .settled .queued .nothingElse q h) j);
+      tick = s .settled .tick;
+      depth = omega (arith, s .settled .depth);
+      running = omega (arith, s .runs .range);
     }
 
 -- ---- the table that an image of bytes shows fits

@@ -14,7 +14,6 @@ use Rattle.sound.proofs.objects.are_semaphores_right.Reads as reads
 use Rattle.sound.proofs.objects.are_semaphores_right.Lts as lts
 use Rattle.sound.proofs.objects.is_semaphore_right.Reads as is-semaphore-right-reads
 use Rattle.table.proofs.cells.get_semaphore.Reads as get-semaphore-reads
-use Rattle.table.proofs.moves.first_in.Reads as first-in-reads
 
 abbrev Inv-loop : tie.InvT-loop
 Inv-loop s i₀ i = (i ≤ 16) × (each i (semaphoreRight (view s)) ≡ true)
@@ -28,20 +27,14 @@ loop-holds c = (omega arith, each-none _)
 get-semaphore-requires : tie.Need-get-semaphore-requires Inv-loop μ-loop
 get-semaphore-requires c κs = search needs
 
-add-first-in : tie.Need-add-first-in Inv-loop μ-loop
-add-first-in c = search needs
-
-first-in-requires : tie.Need-first-in-requires Inv-loop μ-loop
-first-in-requires c κs = search needs
-
 is-semaphore-right-requires : tie.Need-is-semaphore-right-requires Inv-loop μ-loop
 is-semaphore-right-requires c κs = search needs
 
 returns : tie.Need-returns Inv-loop μ-loop
 returns c =
-    let t = view (c .before .before .before .before .before .before .before .args .s .now) in
-    let h : semaphoreRight t (c .before .before .before .before .before .loop .i) ≡ false = cc (not-true (c .before .is-semaphore-right .result) (c .if1 .taken)) in
-    each-stop (semaphoreRight t) 16 (c .before .before .before .before .before .loop .i) (omega arith) h
+    let t = view (c .before .before .before .before .before .before .args .s .now) in
+    let h : semaphoreRight t (c .before .before .before .before .loop .i) ≡ false = cc (not-true (c .before .is-semaphore-right .result) (c .if1 .taken)) in
+    each-stop (semaphoreRight t) 16 (c .before .before .before .before .loop .i) (omega arith) h
 
 add-i : tie.Need-add-i Inv-loop μ-loop
 add-i c = search needs
@@ -51,9 +44,9 @@ loop-less c = omega arith
 
 loop-again : tie.Need-loop-again Inv-loop μ-loop
 loop-again c =
-    let t = view (c .before .before .before .before .before .before .before .args .s .now) in
-    let h : semaphoreRight t (c .before .before .before .before .before .loop .i) ≡ true = cc (not-false (c .before .is-semaphore-right .result) (c .if1 .left)) in
-    (omega arith, each-more (semaphoreRight t) (c .before .before .before .before .before .loop .i) (c .before .before .before .before .before .loop .inv .1) h)
+    let t = view (c .before .before .before .before .before .before .args .s .now) in
+    let h : semaphoreRight t (c .before .before .before .before .loop .i) ≡ true = cc (not-false (c .before .is-semaphore-right .result) (c .if1 .left)) in
+    (omega arith, each-more (semaphoreRight t) (c .before .before .before .before .loop .i) (c .before .before .before .before .loop .inv .1) h)
 
 returns-2 : tie.Need-returns-2 Inv-loop μ-loop
 returns-2 c =
@@ -68,8 +61,6 @@ are-semaphores-right-spec =
     μ-loop
     loop-holds
     get-semaphore-requires
-    add-first-in
-    first-in-requires
     is-semaphore-right-requires
     returns
     add-i

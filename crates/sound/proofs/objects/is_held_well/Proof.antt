@@ -5,7 +5,6 @@ use Rattle.sound.proofs.objects.is_held_well.Tie as tie
 use Rattle.sound.proofs.objects.is_held_well.Reads as reads
 use Rattle.sound.proofs.objects.is_held_well.Lts as lts
 use Rattle.table.proofs.cells.task_at.Reads as task-at-reads
-use Rattle.table.proofs.moves.place_of.Reads as place-of-reads
 
 cast-task-at : tie.Need-cast-task-at
 cast-task-at c = search needs
@@ -16,17 +15,11 @@ sub-task-at c = search needs
 task-at-requires : tie.Need-task-at-requires
 task-at-requires c κs = search needs
 
-place-of-requires : tie.Need-place-of-requires
-place-of-requires c κs = search needs
-
-add-result : tie.Need-add-result
-add-result c = search needs
-
 returns : tie.Need-returns
 unfolding isHeldBy
-returns c = rw (c .before .before .before .before .before .place-of .ensures, c .before .before .before .before .before .before .task-at .ensures)
+returns c = rw (c .before .before .before .before .before .task-at .ensures)
 
 pub is-held-well-spec : {M : Type 1} → statement M
 is-held-well-spec =
     tie.close
-    (tie.spec cast-task-at sub-task-at task-at-requires place-of-requires add-result returns)
+    (tie.spec cast-task-at sub-task-at task-at-requires returns)

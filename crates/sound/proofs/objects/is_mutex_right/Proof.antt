@@ -11,34 +11,27 @@ use Rattle.sound.proofs.objects.is_mutex_right.Lts as lts
 use Rattle.sound.proofs.objects.is_held_well.Reads as is-held-well-reads
 use Rattle.sound.proofs.objects.is_unheld_right.Reads as is-unheld-right-reads
 use Rattle.table.proofs.cells.get_mutex.Reads as get-mutex-reads
-use Rattle.table.proofs.moves.first_in.Reads as first-in-reads
 
 get-mutex-requires : tie.Need-get-mutex-requires
 get-mutex-requires c κs = search needs
-
-add-first-in : tie.Need-add-first-in
-add-first-in c = search needs
-
-first-in-requires : tie.Need-first-in-requires
-first-in-requires c κs = search needs
 
 is-unheld-right-requires : tie.Need-is-unheld-right-requires
 is-unheld-right-requires c κs = search needs
 
 returns : tie.Need-returns
 returns c =
-    let a = c .before .before .before .before .before .before .args in
-    let x = c .before .before .before .before .get-mutex .ensures in
+    let a = c .before .before .before .before .before .args in
+    let x = c .before .before .before .get-mutex .ensures in
     let h : mutexOf (view (a .s .now)) (a .m) .holder ≡ 0 = ap (λ (y : Mutex). y .holder) (sym x) ∙ c .before .if1 .taken in
-    rw (x, c .before .before .before .first-in .ensures) at (c .is-unheld-right .ensures) ∙ unheld-right (view (a .s .now)) (a .m) h
+    rw x at (c .is-unheld-right .ensures) ∙ unheld-right (view (a .s .now)) (a .m) h
 
 is-held-well-requires : tie.Need-is-held-well-requires
 is-held-well-requires c κs = search needs
 
 returns-2 : tie.Need-returns-2
 returns-2 c =
-    let a = c .before .before .before .before .before .before .args in
-    let x = c .before .before .before .before .get-mutex .ensures in
+    let a = c .before .before .before .before .before .args in
+    let x = c .before .before .before .get-mutex .ensures in
     let n : mutexOf (view (a .s .now)) (a .m) .holder ≡ 0 → ⊥ = λ e. c .before .if1 .left (ap (λ (y : Mutex). y .holder) x ∙ e) in
     cc (held-right (view (a .s .now)) (a .m) n)
 
@@ -47,8 +40,6 @@ is-mutex-right-spec =
     tie.close
     (tie.spec
     get-mutex-requires
-    add-first-in
-    first-in-requires
     is-unheld-right-requires
     returns
     is-held-well-requires

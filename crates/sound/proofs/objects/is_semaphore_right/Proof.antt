@@ -10,13 +10,13 @@ returns : tie.Need-returns
 returns c =
     let a = c .before .before .before .args in
     let most : a .x .count ≤ 4294967295 = omega arith in
-    free-right (a .x) (a .front) most (c .before .if1 .taken)
+    free-right (a .x) most (c .before .if1 .taken)
 
 returns-2 : tie.Need-returns-2
 returns-2 c =
-    let a = c .before .before .before .before .args in
+    let a = c .before .before .before .args in
     let most : a .x .count ≤ 4294967295 = omega arith in
-    used-right (a .x) (a .front) most (c .before .before .if1 .left)
+    used-right (a .x) most (c .before .if1 .left)
 
 pub is-semaphore-right-spec : {M : Type 1} → statement M
 is-semaphore-right-spec = tie.close (tie.spec returns returns-2)

@@ -21,7 +21,7 @@ abbrev Inv-loop : tie.InvT-loop
 Inv-loop s spots₀ tick i₀ spots i =
     (i ≤ 32)
     × (length spots ≡ 32)
-    × (each i (λ j. isTaskRight (view s) (taskOf (view s) j)) ≡ true)
+    × (each i (λ j. isTaskRight (view s) j (taskOf (view s) j)) ≡ true)
     × Shows spots (λ j. spotOf (taskOf (view s) j)) i
 
 abbrev μ-loop : tie.MeasureT-loop
@@ -43,8 +43,8 @@ returns : tie.Need-returns Inv-loop μ-loop
 returns c =
     let t = view (c .before .before .before .before .before .before .before .args .s .now) in
     let i = c .before .before .before .loop .i in
-    let h = spot-past t (taskOf t i) (omega (arith, c .before .spot-in .ensures)) in
-    record { test = each-stop (λ j. isTaskRight t (taskOf t j)) 32 i (omega arith) h; tick = omega (arith, c .before .before .before .before .get-tick .ensures); spotted = λ e. absurd (false≢true e) }
+    let h = spot-past t i (taskOf t i) (omega (arith, c .before .spot-in .ensures)) in
+    record { test = each-stop (λ j. isTaskRight t j (taskOf t j)) 32 i (omega arith) h; tick = omega (arith, c .before .before .before .before .get-tick .ensures); spotted = λ e. absurd (false≢true e) }
 
 slice-write-spots : tie.Need-slice-write-spots Inv-loop μ-loop
 slice-write-spots c = search needs
@@ -59,9 +59,9 @@ loop-again : tie.Need-loop-again Inv-loop μ-loop
 loop-again c =
     let t = view (c .before .before .before .before .before .before .before .args .s .now) in
     let i = c .before .before .before .loop .i in
-    let h = spot-here t (taskOf t i) (omega (arith, c .before .spot-in .ensures)) in
+    let h = spot-here t i (taskOf t i) (omega (arith, c .before .spot-in .ensures)) in
     let v = c .before .before .before .loop .inv in
-    (omega arith, simp length-set (omega arith), each-more (λ j. isTaskRight t (taskOf t j)) i (v .2) (h .0), shows-more _ (omega arith) (c .before .spot-in .ensures ∙ h .1) (v .3))
+    (omega arith, simp length-set (omega arith), each-more (λ j. isTaskRight t j (taskOf t j)) i (v .2) (h .0), shows-more _ (omega arith) (c .before .spot-in .ensures ∙ h .1) (v .3))
 
 same-length-2 : tie.Need-same-length-2 Inv-loop μ-loop
 same-length-2 c = omega arith

@@ -16,7 +16,7 @@ get-semaphore-requires c κs = search needs
 
 returns : tie.Need-returns
 unfolding isServed
-returns c = rw (eq-eqb _ _ (c .before .before .before .if1 .taken), c .before .get-semaphore .ensures)
+returns c = rw (eq-eqb _ _ (c .before .before .before .before .if1 .taken), c .before .before .get-semaphore .ensures)
 
 cast-get-mutex : tie.Need-cast-get-mutex
 cast-get-mutex c = search needs
@@ -24,9 +24,15 @@ cast-get-mutex c = search needs
 get-mutex-requires : tie.Need-get-mutex-requires
 get-mutex-requires c κs = search needs
 
+cast-result : tie.Need-cast-result
+cast-result c = search needs
+
+add-result : tie.Need-add-result
+add-result c = search needs
+
 returns-2 : tie.Need-returns-2
 unfolding isServed
-returns-2 c = rw (ne-eqb _ _ (c .before .before .before .before .before .if1 .left), eq-eqb _ _ (c .before .before .before .if2 .taken), c .before .get-mutex .ensures)
+returns-2 c = rw (ne-eqb _ _ (c .before .before .before .before .before .before .before .if1 .left), eq-eqb _ _ (c .before .before .before .before .before .if2 .taken), c .before .before .before .get-mutex .ensures)
 
 returns-3 : tie.Need-returns-3
 unfolding isServed
@@ -41,5 +47,7 @@ is-served-spec =
     returns
     cast-get-mutex
     get-mutex-requires
+    cast-result
+    add-result
     returns-2
     returns-3)

@@ -30,7 +30,8 @@ is-served-requires : tie.Need-is-served-requires
 is-served-requires c κs =
     let a = c .before .before .before .before .args in
     let h : isFit (a .k) && isTimely (view (a .s .now) .tick) (a .k) ≡ true = cc (not-false (c .before .before .is-fit .result && c .before .is-timely .result) (c .if1 .left)) in
-    (fit-object (a .k) (and-first _ _ h), c .before .before .before .before .pre .1)
+    let p = c .before .before .before .before .pre in
+    (p .0, fit-object (a .k) (and-first _ _ h), p .2)
 
 returns-2 : tie.Need-returns-2
 unfolding isUseRight

@@ -23,7 +23,7 @@ returns c =
     let a = c .before .before .before .args in
     let k = taskOf (view (a .s .now)) (a .i) in
     let free : isNoTask k ≡ true = cc in
-    spot-blank (view (a .s .now)) k free
+    spot-blank (view (a .s .now)) (a .i) k free
 
 get-task-requires : tie.Need-get-task-requires
 get-task-requires c κs = search needs
@@ -36,8 +36,8 @@ returns-2 c =
     let a = c .before .before .before .before .before .before .args in
     let k = taskOf (view (a .s .now)) (a .i) in
     let free : isNoTask k ≡ false = cc in
-    let right : isUseRight (view (a .s .now)) k ≡ false = cc (not-true (c .before .is-use-right .result) (c .if2 .taken)) in
-    spot-used (view (a .s .now)) k false free right
+    let right : isUseRight (view (a .s .now)) (a .i) k ≡ false = cc (not-true (c .before .is-use-right .result) (c .if2 .taken)) in
+    spot-used (view (a .s .now)) (a .i) k false free right
 
 spot-of-requires : tie.Need-spot-of-requires
 spot-of-requires c κs = search needs
@@ -47,8 +47,8 @@ returns-3 c =
     let a = c .before .before .before .before .before .before .before .args in
     let k = taskOf (view (a .s .now)) (a .i) in
     let free : isNoTask k ≡ false = cc in
-    let right : isUseRight (view (a .s .now)) k ≡ true = cc (not-false (c .before .before .is-use-right .result) (c .before .if2 .left)) in
-    c .spot-of .ensures ∙ ap spotOf (c .before .before .before .get-task .ensures) ∙ spot-used (view (a .s .now)) k true free right
+    let right : isUseRight (view (a .s .now)) (a .i) k ≡ true = cc (not-false (c .before .before .is-use-right .result) (c .before .if2 .left)) in
+    c .spot-of .ensures ∙ ap spotOf (c .before .before .before .get-task .ensures) ∙ spot-used (view (a .s .now)) (a .i) k true free right
 
 pub spot-in-spec : {M : Type 1} → statement M
 spot-in-spec =
