@@ -2,19 +2,17 @@
 use mathlib.Core.Path.{_≡_, refl, ap, _∙_}
 use mathlib.Core.Logic.{_≢_}
 use mathlib.Core.Bool.{Bool, true, false, cond, _&&_, _||_}
-use Prim.Native.Nat.{ℕ, _+_, _-_, _<_}
+use Prim.Native.Nat.{ℕ, _-_, _<_}
 use native.Mathlib.Decide.{ℕ-discrete}
 use native.Mathlib.Omega.{arith}
 use lib.Dec.{eqb}
 use lib.ListN.{length, length-set}
 use lib.Seq.{getD-set-same, getD-set-other}
 use borrow.Author.Tests.{eqb-true, eqb-false}
-use Rattle.rules.specs.Sizes.{taskCount, delayed, given}
-use Rattle.rules.specs.Table.{Table, taskOf, noTask, isAble, mutexQueue, firstIn, heldBy, withMutex, withBase, withSuspend, withLeft, withState, withMark, withOutcome}
+use Rattle.rules.specs.Sizes.{taskCount, given}
+use Rattle.rules.specs.Table.{Table, taskOf, noTask, isAble, mutexQueue, firstIn, heldBy, withMutex, withLeft}
 use Rattle.rules.specs.Move.{put, rotate, walk, next, away, ready, ended, hasPeer}
-use Rattle.rules.specs.Task.{created, create, delete, changePriority, suspend, resume}
-use Rattle.rules.specs.Time.{callerOf, markIn, delay}
-use Rattle.rules.specs.Object.{limited, blocked, taken}
+use Rattle.rules.specs.Time.{callerOf}
 use Rattle.rules.specs.Mutex.{handed, released}
 use Rattle.rules.specs.Tick.{turned}
 use Rattle.rules.specs.declared.Task.{Task}
@@ -99,26 +97,6 @@ module _ {i : ℕ} {t : Table} (l : i < taskCount) (size : length (t .tasks) ≡
 
   -- ---- calls on task i
 
-  pub create-becomes : (base quantum : ℕ) → Becomes i (created base quantum) t (create i base quantum t)
-  unfolding create
-  create-becomes base quantum = put-becomes (created base quantum)
-
-  pub delete-becomes : Becomes i noTask t (delete i t)
-  unfolding delete
-  delete-becomes = then-walk (next t i) (put-becomes noTask)
-
-  pub changePriority-becomes : (base : ℕ) → Becomes i (withBase base (taskOf t i)) t (changePriority i base t)
-  unfolding changePriority
-  changePriority-becomes base = then-walk i (put-becomes (withBase base (taskOf t i)))
-
-  pub suspend-becomes : Becomes i (withSuspend (taskOf t i .suspend + 1) (taskOf t i)) t (suspend i t)
-  unfolding suspend
-  suspend-becomes = put-becomes _
-
-  pub resume-becomes : Becomes i (withSuspend (taskOf t i .suspend - 1) (taskOf t i)) t (resume i t)
-  unfolding resume
-  resume-becomes = put-becomes _
-
   pub rotate-becomes : Becomes i (withLeft (taskOf t i .quantum) (taskOf t i)) t (rotate i t)
   rotate-becomes = then-rotate (as-is (taskOf t i) refl)
 
@@ -195,18 +173,6 @@ turned-one P t same less over =
     either P (eqb (t .running) 0 || eqb (caller t .quantum) 0) same (either P (eqb (taskOf u i .left) 0 && (eqb (u .depth) 0 && hasPeer i u)) over less)
 
 module _ {t : Table} (l : callerOf t < taskCount) (size : length (t .tasks) ≡ taskCount) where
-  pub delay-becomes : (n : ℕ) → Becomes (callerOf t) (withState delayed 0 (withMark 1 (markIn n t) (caller t))) t (delay n t)
-  unfolding delay
-  delay-becomes n = put-becomes l size _
-
-  pub blocked-becomes : (state object limit : ℕ) → Becomes (callerOf t) (withState state object (limited limit t (caller t))) t (blocked state object limit t)
-  unfolding blocked
-  blocked-becomes state object limit = put-becomes l size _
-
-  pub taken-becomes : Becomes (callerOf t) (withOutcome given (caller t)) t (taken t)
-  unfolding taken
-  taken-becomes = put-becomes l size _
-
   -- A tick leaves it some number of ticks.
   pub turned-becomes : (x : ℕ) × Becomes (callerOf t) (withLeft x (caller t)) t (turned t)
   turned-becomes =

@@ -6,11 +6,11 @@ use Prim.Native.Nat.{ℕ, _+_, _-_, _≤_, _<_}
 use native.Mathlib.Omega.{arith}
 use lib.Dec.{eqb, ltb}
 use borrow.Author.Tests.{eq-eqb, eqb-true, eqb-false, ltb-true, ltb-false}
-use Rattle.rules.specs.Sizes.{taskCount, semaphoreCount, mutexCount, mostNested, mostCount, ticksRound, waitsMutex, given, aborted}
+use Rattle.rules.specs.Sizes.{taskCount, semaphoreCount, mutexCount, mostNested, mostCount, ticksRound, delayed, waitsMutex, given, aborted}
 use Rattle.rules.specs.Table.{Table, taskOf, semaphoreOf, mutexOf, queueCount, ableQueue, semaphoreQueue, firstIn, isAble, written, counting, heldBy, withSemaphore, withMutex}
 use Rattle.rules.specs.Move.{ended}
 use Rattle.rules.specs.Sound.{Empty, Sound}
-use Rattle.rules.specs.Time.{callerOf, yield, delayResume}
+use Rattle.rules.specs.Time.{callerOf, yield, delay, delayResume}
 use Rattle.rules.specs.Lock.{lock, unlock}
 use Rattle.rules.specs.Object.{waits, taken}
 use Rattle.rules.specs.Semaphore.{semaphores, semaphoreCreate, semaphoreWait, semaphorePost}
@@ -18,13 +18,20 @@ use Rattle.rules.specs.Mutex.{mutexes, released, mutexCreate, mutexWait, mutexP
 use Rattle.rules.specs.Step.{changeBy, Bounded}
 use Rattle.rules.specs.declared.Call.{Call}
 use Rattle.rules.specs.declared.Call.the-variants.{TaskCreate, TaskDelete, ChangePriority, Suspend, Resume, Yield, Delay, DelayResume, Lock, Unlock, Tick, SemaphoreCreate, SemaphoreDelete, SemaphoreWait, SemaphorePost, SemaphoreAbort, MutexCreate, MutexDelete, MutexWait, MutexPost, MutexAbort}
-use Rattle.laws.specs.Settled.{Settled, NotDue, sized}
+use Rattle.laws.specs.Settled.{Settled, NotDue}
 use Rattle.laws.specs.Graph.{held-alike}
-use Rattle.laws.specs.Becomes.{delay-becomes, caller, caller-used}
-use Rattle.laws.specs.Due.{create-due, delete-due, changePriority-due, suspend-due, resume-due, rotate-due, delay-due, taken-due, released-due}
-use Rattle.laws.specs.Running.{RunsOn, right-on, caller-able, depth-runs, unlocked-runs, create-runs, delete-runs, changePriority-runs, suspend-runs, resume-runs, rotate-runs, taken-runs, released-runs}
-use Rattle.laws.specs.Kept.{list-settled, create-settled, rotate-settled, delete-settled, changePriority-settled, suspend-settled, resume-settled, delay-settled, taken-settled, released-settled}
-use Rattle.laws.specs.Ending.{Unchosen, sound-unchosen, waiter-ended, first-waiter, ticked-unchosen}
+use Rattle.laws.specs.Becomes.{caller, caller-used}
+use Rattle.laws.specs.Due.{ahead, rotate-due, released-due}
+use Rattle.laws.specs.Running.{RunsOn, right-on, caller-able, depth-runs, rotate-runs, released-runs}
+use Rattle.laws.specs.Kept.{list-settled, rotate-settled, released-settled}
+use Rattle.laws.specs.Ending.{waiter-ended, first-waiter, ticked-unchosen}
+use Rattle.laws.specs.Records.{created-right, free-right, base-right, suspend-right, outcome-right, marked-right}
+use Rattle.laws.specs.Priorities.{create-worked, delete-worked, changePriority-worked, suspend-worked, resume-worked, delay-worked, taken-worked}
+use Rattle.laws.specs.Found.{holds-none}
+use Rattle.rules.specs.Move.{next}
+use Rattle.rules.specs.Sound.{objectsIn}
+use Rattle.rules.specs.Task.{create, delete, changePriority, suspend, resume}
+use Rattle.laws.specs.Moves.{no-wait, like, put-keeps, put-walk-keeps, Unchosen, sound-unchosen}
 use Rattle.laws.specs.Accepted.{Accepted}
 use Rattle.laws.specs.Stands.{semaphores-placed, mutexes-placed, unwaited, no-queue}
 use Rattle.laws.specs.Linked.{HeldApart, may-apart, awaited-may, apart-may}
@@ -43,12 +50,10 @@ first-ended h outcome o q l d some = waiter-ended h (first-waiter (h .settled) q
 
 module _ {t : Table} (h : Unchosen t) (l : callerOf t < taskCount) (a : isAble (caller t) ≡ true) where
   taken-unchosen : Unchosen (taken t)
+  unfolding taken
   taken-unchosen =
-      record {
-        settled = taken-settled (h .settled) l a;
-        notDue = taken-due (h .settled) (h .notDue) l;
-        runs = taken-runs (h .settled) (h .runs);
-      }
+      let u = caller-used t a in
+      put-keeps h (like h l _ (outcome-right (h .settled .tasks _ l) u given (omega arith)) refl refl refl refl u (λ d e x. record { used = x .used; state = x .state; suspend = x .suspend })) (taken-worked (h .settled) l a)
 
 module _ {t : Table} (s : Sound t) where
   -- What a sound table has.
@@ -176,37 +181,43 @@ module _ {t : Table} (s : Sound t) where
   -- ---- each call
 
   pub change-unchosen : (c : Call) → Bounded c → Accepted c t → Unchosen (changeBy c t)
-  unfolding changeBy Bounded yield delayResume lock unlock semaphoreCreate mutexCreate
+  unfolding changeBy Bounded create delete changePriority suspend resume delay objectsIn yield delayResume lock unlock semaphoreCreate mutexCreate
   change-unchosen (TaskCreate i base quantum) b (l, u, p, q) =
-      record {
-        settled = create-settled h i l base quantum (omega (arith, h .tasks i l .inRange .used)) p q;
-        notDue = create-due h due i l base quantum;
-        runs = create-runs h runs i l base quantum;
-      }
+      put-keeps whole
+      (record {
+        task = l;
+        right = created-right p q;
+        delay = omega arith;
+        off = omega arith;
+        waits = no-wait t i 0 0 (omega arith);
+        holds = λ m n e. refl;
+        runs = λ d e a. record { used = refl; state = refl; suspend = refl };
+      })
+      (create-worked h i base quantum l (omega (arith, h .tasks i l .inRange .used)) p q)
   change-unchosen (TaskDelete i) b (l, u, other, none) =
-      record {
-        settled = delete-settled h i l u (not-true _ none);
-        notDue = delete-due h due i l;
-        runs = delete-runs h runs i l other;
-      }
+      put-walk-keeps whole
+      (record {
+        task = l;
+        right = free-right;
+        delay = omega arith;
+        off = omega arith;
+        waits = no-wait t i 0 0 (omega arith);
+        holds = λ m n e. absurd (holds-none mutexCount i t (not-true _ none) m n e);
+        runs = λ d e. absurd (other d e);
+      })
+      (next t i)
+      (delete-worked h i l u (not-true _ none))
   change-unchosen (ChangePriority i base) b (l, u, p) =
-      record {
-        settled = changePriority-settled h i l u base p;
-        notDue = changePriority-due h due i l base;
-        runs = changePriority-runs h runs i l base;
-      }
+      put-walk-keeps whole
+      (like whole l _ (base-right (h .tasks i l) u base p) refl refl refl refl u (λ d e a. record { used = a .used; state = a .state; suspend = a .suspend }))
+      i
+      (changePriority-worked h i base l u p)
   change-unchosen (Suspend i) b (l, u, other, n) =
-      record {
-        settled = suspend-settled h i l u n;
-        notDue = suspend-due h due i l;
-        runs = suspend-runs h runs i l other;
-      }
+      put-keeps whole (like whole l _ (suspend-right (h .tasks i l) u _ (omega arith)) refl refl refl refl u (λ d e. absurd (other d e))) (suspend-worked h i l u n)
   change-unchosen (Resume i) b (l, u, n) =
-      record {
-        settled = resume-settled h i l u n;
-        notDue = resume-due h due i l;
-        runs = resume-runs h runs i l;
-      }
+      put-keeps whole
+      (like whole l _ (suspend-right (h .tasks i l) u _ (omega (arith, h .tasks i l .inRange .suspend))) refl refl refl refl u (λ d e a. record { used = a .used; state = a .state; suspend = omega (arith, a .suspend) }))
+      (resume-worked h i l u n)
   change-unchosen Yield b (c, z, p) =
       record {
         settled = rotate-settled h (callerOf t) runner (runs-able c);
@@ -214,11 +225,18 @@ module _ {t : Table} (s : Sound t) where
         runs = rotate-runs h runs (callerOf t) runner;
       }
   change-unchosen (Delay n) b (c, some, z) =
-      record {
-        settled = delay-settled h runner (runs-able c) n (omega arith) b;
-        notDue = delay-due h due runner n (omega arith) b;
-        runs = unlocked-runs (delay-becomes runner (sized h) n) z runs;
-      }
+      let u = caller-used t (runs-able c) in
+      put-keeps whole
+      (record {
+        task = runner;
+        right = marked-right (h .tasks _ runner) u delayed 0 n t (omega arith) (omega arith) (omega arith);
+        delay = omega arith;
+        off = λ e. ahead n t (h .tick) (omega arith) b;
+        waits = no-wait t _ 1 0 (omega arith);
+        holds = λ m l e. u;
+        runs = λ d. absurd (d z);
+      })
+      (delay-worked h n runner (runs-able c) (omega arith) b)
   change-unchosen (DelayResume i) b (l, u, e) = waiter-ended whole (record { task = l; used = u; state = λ z. omega arith }) given (omega arith)
   change-unchosen Lock b n =
       record {

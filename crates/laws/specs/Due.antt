@@ -8,15 +8,14 @@ use lib.Dec.{eqb}
 use borrow.Author.Tests.{eqb-false}
 use Rattle.rules.specs.Sizes.{taskCount, ticksRound}
 use Rattle.rules.specs.Table.{Table, taskOf, withState, withMark}
-use Rattle.rules.specs.Move.{rotate, walk, ended}
+use Rattle.rules.specs.Move.{rotate, ended}
 use Rattle.rules.specs.Sound.{Each}
-use Rattle.rules.specs.Task.{create, delete, changePriority, suspend, resume}
-use Rattle.rules.specs.Time.{callerOf, markIn, delay}
-use Rattle.rules.specs.Object.{limited, blocked, taken}
+use Rattle.rules.specs.Time.{callerOf, markIn}
+use Rattle.rules.specs.Object.{limited}
 use Rattle.rules.specs.Mutex.{released}
 use Rattle.rules.specs.declared.Task.{Task}
 use Rattle.laws.specs.Settled.{NotDue, Settled, sized}
-use Rattle.laws.specs.Becomes.{Becomes, becomes-each, then-walk, create-becomes, delete-becomes, changePriority-becomes, suspend-becomes, resume-becomes, rotate-becomes, ended-becomes, caller, delay-becomes, blocked-becomes, taken-becomes, released-each, released-frame}
+use Rattle.laws.specs.Becomes.{Becomes, becomes-each, rotate-becomes, ended-becomes, caller, released-each, released-frame}
 
 -- No mark of the task equals the counter.
 abbrev pub Off : ℕ → Task → Type 0
@@ -30,26 +29,11 @@ pub due-become : {n i : ℕ} {k : Task} {t u : Table} → Becomes i k t u → Of
 due-become {t = t} b new old j l = rw (ap (λ (x : Table). x .tick) (b .rests)) (becomes-each (λ n. Off (t .tick)) b j new (old j l))
 
 -- A mark set now is some way ahead.
-ahead : (n : ℕ) (t : Table) → t .tick < ticksRound → 0 < n → n < ticksRound → markIn n t ≢ t .tick
+pub ahead : (n : ℕ) (t : Table) → t .tick < ticksRound → 0 < n → n < ticksRound → markIn n t ≢ t .tick
 ahead n t l z m e = omega arith
 
 module _ {t : Table} (s : Settled t) (notDue : NotDue t) where
   module _ (i : ℕ) (l : i < taskCount) where
-    pub create-due : (base quantum : ℕ) → NotDue (create i base quantum t)
-    create-due base quantum = due-become (create-becomes l (sized s) base quantum) (omega arith) notDue
-
-    pub delete-due : NotDue (delete i t)
-    delete-due = due-become (delete-becomes l (sized s)) (omega arith) notDue
-
-    pub changePriority-due : (base : ℕ) → NotDue (changePriority i base t)
-    changePriority-due base = due-become (changePriority-becomes l (sized s) base) (notDue i l) notDue
-
-    pub suspend-due : NotDue (suspend i t)
-    suspend-due = due-become (suspend-becomes l (sized s)) (notDue i l) notDue
-
-    pub resume-due : NotDue (resume i t)
-    resume-due = due-become (resume-becomes l (sized s)) (notDue i l) notDue
-
     pub rotate-due : NotDue (rotate i t)
     rotate-due = due-become (rotate-becomes l (sized s)) (notDue i l) notDue
 
@@ -57,21 +41,12 @@ module _ {t : Table} (s : Settled t) (notDue : NotDue t) where
     ended-due outcome = due-become (ended-becomes l (sized s) outcome) (omega arith) notDue
 
   module _ (l : callerOf t < taskCount) where
-    pub delay-due : (n : ℕ) → 0 < n → n < ticksRound → NotDue (delay n t)
-    delay-due n z m = due-become (delay-becomes l (sized s) n) (λ e. ahead n t (s .tick) z m) notDue
-
-    limited-off : (state object limit : ℕ) → limit < ticksRound → Off (t .tick) (withState state object (limited limit t (caller t)))
+    pub limited-off : (state object limit : ℕ) → limit < ticksRound → Off (t .tick) (withState state object (limited limit t (caller t)))
     limited-off state object limit m = go (eqb limit 0) refl
       where
         go : (b : Bool) → eqb limit 0 ≡ b → Off (t .tick) (withState state object (cond b (withMark 0 0 (caller t)) (withMark 1 (markIn limit t) (caller t))))
         go true e = omega arith
         go false e = λ q. ahead limit t (s .tick) (omega (arith, eqb-false limit 0 e)) m
-
-    pub blocked-due : (state object limit w : ℕ) → limit < ticksRound → NotDue (walk w (blocked state object limit t))
-    blocked-due state object limit w m = due-become (then-walk w (blocked-becomes l (sized s) state object limit)) (limited-off state object limit m) notDue
-
-    pub taken-due : NotDue (taken t)
-    taken-due = due-become (taken-becomes l (sized s)) (notDue _ l) notDue
 
   pub released-due : (m : ℕ) → NotDue (released m t)
   released-due m j =

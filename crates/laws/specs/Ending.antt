@@ -17,25 +17,16 @@ use Rattle.rules.specs.Sound.{Empty, Sound}
 use Rattle.rules.specs.Object.{emptied}
 use Rattle.rules.specs.Tick.{isDue, dueEnded, dueBelow, ticked}
 use Rattle.rules.specs.declared.Task.{Task}
-use Rattle.laws.specs.Settled.{Settled, NotDue, sized}
+use Rattle.laws.specs.Settled.{Settled, sized}
 use Rattle.laws.specs.Tally.{tally, tally-most, tally-some, tally-less}
 use Rattle.laws.specs.Fields.{rest, bare-place, put-rest, walk-rest}
 use Rattle.laws.specs.Put.{either}
 use Rattle.laws.specs.Stands.{placed-used, waits-there, first-range, first-there, none-empty}
 use Rattle.laws.specs.Becomes.{Becomes, ended-becomes}
 use Rattle.laws.specs.Due.{Off, OffBelow, due-become, ended-due}
-use Rattle.laws.specs.Running.{RunsOn, right-on, caller-able, ended-runs, turned-runs}
+use Rattle.laws.specs.Running.{RunsOn, caller-able, ended-runs, turned-runs}
+use Rattle.laws.specs.Moves.{Unchosen}
 use Rattle.laws.specs.Kept.{list-settled, ended-settled, turned-settled}
-
--- ---- a call's changes, before the running task is chosen
-
-pub record Unchosen (t : Table) : Type 0 where
-  pub settled : Settled t
-  pub notDue : NotDue t
-  pub runs : RunsOn t
-
-pub sound-unchosen : {t : Table} → Sound t → Unchosen t
-sound-unchosen s = record { settled = s .settled; notDue = s .notDue; runs = right-on (s .runs) }
 
 -- ---- one wait that ends
 

@@ -13,7 +13,7 @@ use Rattle.rules.specs.Move.{walk, next, holderOf}
 use Rattle.rules.specs.Sound.{Empty, objectsIn}
 use Rattle.rules.specs.Time.{callerOf}
 use Rattle.rules.specs.Family.{Family, waitersOf}
-use Rattle.rules.specs.Object.{waits, abort, objectAbort, objectDelete}
+use Rattle.rules.specs.Object.{blocked, waits, abort, objectAbort, objectDelete}
 use Rattle.rules.specs.Semaphore.{semaphores}
 use Rattle.rules.specs.Mutex.{mutexes}
 use Rattle.rules.specs.declared.Semaphore.{Semaphore}
@@ -22,16 +22,17 @@ use Rattle.laws.specs.Settled.{Settled, sized}
 use Rattle.laws.specs.Fields.{frame, walk-rest, walk-size, walk-bare, walk-each}
 use Rattle.laws.specs.Queues.{same-queued, walk-queued}
 use Rattle.laws.specs.Graph.{Alike, alike-worked, waits-task, unwaited-alike}
-use Rattle.laws.specs.Priorities.{walk-worked}
-use Rattle.laws.specs.Becomes.{framed-settled, then-walk, blocked-becomes, caller}
-use Rattle.laws.specs.Records.{walk-tasks, DelayMarked}
-use Rattle.laws.specs.Due.{Off, blocked-due}
-use Rattle.laws.specs.Running.{same-runs, unlocked-runs}
+use Rattle.laws.specs.Priorities.{walk-worked, blocked-worked}
+use Rattle.laws.specs.Becomes.{framed-settled, caller, caller-used}
+use Rattle.laws.specs.Records.{walk-tasks, DelayMarked, limited-right}
+use Rattle.laws.specs.Due.{Off, limited-off}
+use Rattle.laws.specs.Running.{same-runs}
 use Rattle.laws.specs.Stands.{Placed, semaphores-placed, mutexes-placed, unwaited}
 use Rattle.rules.specs.Sound.{SemaphoreRight, MutexRight, WaitRight, ObjectsRight}
 use Rattle.laws.specs.Linked.{Awaited, HeldApart, linked-same, linked-semaphore, linked-mutex}
-use Rattle.laws.specs.Kept.{blocked-settled}
-use Rattle.laws.specs.Ending.{Unchosen, waiter-ended, first-waiter, emptied-all}
+use Rattle.laws.specs.Objects.{limited-used}
+use Rattle.laws.specs.Ending.{waiter-ended, first-waiter, emptied-all}
+use Rattle.laws.specs.Moves.{Unchosen, put-walk-keeps}
 
 -- ---- an object is stored: no task, no queue and no wait changes
 
@@ -170,12 +171,18 @@ module _ {f : Family} (k : Lawful f) {t : Table} (h : Unchosen t) (o : ℕ) (l :
   -- "Otherwise the caller leaves the able queue, goes behind its equals in the object's queue, and .. the chain from the holder moves."
   pub waits-keeps : (limit : ℕ) → limit < ticksRound → callerOf t < taskCount → isAble (caller t) ≡ true → t .depth ≡ 0 → WaitRight t (callerOf t) (f .state) o
       → Unchosen (waits f o limit t)
-  unfolding waits
+  unfolding waits blocked
   waits-keeps limit most c a z may =
       let s = h .settled in
-      let w = f .holder t o in
-      record {
-        settled = blocked-settled s c a (f .state) o limit w (k .known) (k .waiting) (omega (arith, k .numbers)) may (λ e. k .chain e t o);
-        notDue = blocked-due s (h .notDue) c (f .state) o limit w most;
-        runs = unlocked-runs (then-walk w (blocked-becomes c (sized s) (f .state) o limit)) z (h .runs);
-      }
+      put-walk-keeps h
+      (record {
+        task = c;
+        right = limited-right (s .tasks _ c) (caller-used t a) (f .state) o limit t (k .known) (λ e. omega (arith, k .waiting)) (omega (arith, k .numbers));
+        delay = λ e. omega (arith, k .waiting);
+        off = limited-off s (h .notDue) c (f .state) o limit most;
+        waits = may;
+        holds = λ m n e. limited-used s c a limit;
+        runs = λ d. absurd (d z);
+      })
+      (f .holder t o)
+      (blocked-worked s (f .state) o limit (f .holder t o) (λ e. k .chain e t o) c a)

@@ -17,6 +17,7 @@ pub mod Due
 pub mod Linked
 pub mod Objects
 pub mod Running
+pub mod Moves
 pub mod Kept
 pub mod Ending
 pub mod Accepted

@@ -1,7 +1,7 @@
 -- Each call leaves the objects right: ObjectsRight.
 use mathlib.Core.Path.{_≡_, refl, sym, ap, _∙_}
 use mathlib.Core.Logic.{_≢_}
-use mathlib.Core.Bool.{true, false}
+use mathlib.Core.Bool.{true}
 use Prim.Native.Nat.{ℕ, _-_, _≤_, _<_}
 use native.Mathlib.Decide.{ℕ-discrete}
 use native.Mathlib.Omega.{arith}
@@ -10,10 +10,9 @@ use lib.ListN.{length}
 use lib.Seq.{set-set}
 use Rattle.rules.specs.Sizes.{taskCount, mutexCount, mostNested, waitsSemaphore, waitsMutex, given}
 use Rattle.rules.specs.Table.{Table, taskOf, mutexQueue, firstIn, isAble, placeOf, heldBy, withMutex}
-use Rattle.rules.specs.Move.{put, ready, rotate, walk, ended}
-use Rattle.rules.specs.Task.{holdsBelow, create, delete, changePriority, suspend, resume}
-use Rattle.rules.specs.Time.{callerOf, delay}
-use Rattle.rules.specs.Object.{limited, blocked, taken}
+use Rattle.rules.specs.Move.{put, ready, rotate, ended}
+use Rattle.rules.specs.Time.{callerOf}
+use Rattle.rules.specs.Object.{limited}
 use Rattle.rules.specs.Mutex.{released}
 use Rattle.rules.specs.Tick.{turned}
 use Rattle.rules.specs.declared.Task.{Task}
@@ -21,9 +20,8 @@ use Rattle.rules.specs.declared.Mutex.{Mutex}
 use Rattle.laws.specs.Settled.{Queued, ObjectsRight, Settled, sized}
 use Rattle.laws.specs.Fields.{rest, framed, bare, bare-place, walk-rest, walk-size, walk-bare, put-rest, put-size}
 use Rattle.laws.specs.Put.{either}
-use Rattle.laws.specs.Becomes.{Becomes, put-becomes, then-walk, create-becomes, delete-becomes, changePriority-becomes, suspend-becomes, resume-becomes, rotate-becomes, ended-becomes, caller, caller-used, delay-becomes, blocked-becomes, taken-becomes, turned-becomes, freed, released-one, given-to}
+use Rattle.laws.specs.Becomes.{Becomes, put-becomes, rotate-becomes, ended-becomes, caller, caller-used, turned-becomes, freed, released-one, given-to}
 use Rattle.laws.specs.Stands.{placed-used, first-range, first-there, mutexes-placed, unwaited}
-use Rattle.laws.specs.Found.{holds-none}
 use Rattle.rules.specs.Sound.{MutexRight, WaitRight}
 use Rattle.laws.specs.Linked.{HeldApart, waits-like, linked-become, holder-used, linked-same, linked-mutex}
 
@@ -109,22 +107,7 @@ module _ {t : Table} (s : Settled t) where
   becomes-right b may used = linked-become b linked may (λ m l e. used)
 
   module _ (i : ℕ) (l : i < taskCount) where
-    pub create-objects : (base quantum : ℕ) → ObjectsRight (create i base quantum t)
-    create-objects base quantum = becomes-right (create-becomes l (sized s) base quantum) (no-wait i 0 0 (omega arith)) refl
-
-    pub delete-objects : holdsBelow mutexCount i t ≡ false → ObjectsRight (delete i t)
-    delete-objects h = linked-become (delete-becomes l (sized s)) linked (no-wait i 0 0 (omega arith)) (λ m n e. absurd (holds-none mutexCount i t h m n e))
-
     module _ (u : taskOf t i .used ≡ 1) where
-      pub changePriority-objects : (base : ℕ) → ObjectsRight (changePriority i base t)
-      changePriority-objects base = becomes-right (changePriority-becomes l (sized s) base) (linked .waits i l) u
-
-      pub suspend-objects : ObjectsRight (suspend i t)
-      suspend-objects = becomes-right (suspend-becomes l (sized s)) (linked .waits i l) u
-
-      pub resume-objects : ObjectsRight (resume i t)
-      resume-objects = becomes-right (resume-becomes l (sized s)) (linked .waits i l) u
-
       pub rotate-objects : ObjectsRight (rotate i t)
       rotate-objects = becomes-right (rotate-becomes l (sized s)) (linked .waits i l) u
 
@@ -134,18 +117,8 @@ module _ {t : Table} (s : Settled t) where
   -- ---- calls of the running task
 
   module _ (l : callerOf t < taskCount) (a : isAble (caller t) ≡ true) where
-    pub delay-objects : (n : ℕ) → ObjectsRight (delay n t)
-    delay-objects n = becomes-right (delay-becomes l (sized s) n) (no-wait _ 1 0 (omega arith)) (caller-used t a)
-
-    pub taken-objects : ObjectsRight (taken t)
-    taken-objects = becomes-right (taken-becomes l (sized s)) (linked .waits _ l) (caller-used t a)
-
-    limited-used : (limit : ℕ) → limited limit t (caller t) .used ≡ 1
+    pub limited-used : (limit : ℕ) → limited limit t (caller t) .used ≡ 1
     limited-used limit = either (λ (k : Task). k .used ≡ 1) (eqb limit 0) (caller-used t a) (caller-used t a)
-
-    pub blocked-objects : (state object limit w : ℕ) → WaitRight t (callerOf t) state object
-        → ObjectsRight (walk w (blocked state object limit t))
-    blocked-objects state object limit w may = becomes-right (then-walk w (blocked-becomes l (sized s) state object limit)) may (limited-used limit)
 
   pub turned-objects : callerOf t < taskCount → ObjectsRight (turned t)
   turned-objects l = linked-become (turned-becomes l (sized s) .1) linked (linked .waits _ l) (holder-used linked _)

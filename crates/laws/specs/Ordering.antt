@@ -35,7 +35,8 @@ use Rattle.laws.specs.Order.{Before, Stayed, Rotated, yields, OrderKept}
 use Rattle.laws.specs.Moved.{Two, Same, Moved, walks-oneway, put-kept, moved-on, put-moved, same-moved, apart-moved, rotate-moved, walk-moved}
 use Rattle.laws.specs.Rising.{Rises, rises-oneway, freed-rises, no-waiter, not-able, settled-fit, sound-fit, mutex-fit, Risen, risen-on, same-risen, walk-risen, ended-risen, all-risen}
 use Rattle.laws.specs.Found.{peer}
-use Rattle.laws.specs.Ending.{sound-unchosen, emptied-all}
+use Rattle.laws.specs.Ending.{emptied-all}
+use Rattle.laws.specs.Moves.{sound-unchosen}
 use Rattle.laws.specs.Families.{stored-unchosen, Lawful, semaphores-lawful, mutexes-lawful}
 use Rattle.laws.specs.Turn.{ticked-risen}
 

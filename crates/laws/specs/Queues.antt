@@ -21,9 +21,8 @@ use Rattle.rules.specs.Afresh.{lt-or-le}
 use Rattle.rules.specs.Sizes.{taskCount}
 use Rattle.rules.specs.Table.{Table, taskOf, queueOf, queueCount, ableQueue, works, placeOf, isAble, written, withTask, withSemaphore, withMutex, withQueue, withLeft}
 use Rattle.rules.specs.Move.{leave, join, stays, put, rotate, walk, ended}
-use Rattle.rules.specs.Task.{create, delete, changePriority, suspend, resume}
-use Rattle.rules.specs.Time.{callerOf, delay}
-use Rattle.rules.specs.Object.{blocked, taken}
+use Rattle.rules.specs.Time.{callerOf}
+use Rattle.rules.specs.Object.{taken}
 use Rattle.rules.specs.Mutex.{released}
 use Rattle.rules.specs.Tick.{turned}
 use Rattle.rules.specs.Sound.{Each, once, Shaped}
@@ -255,43 +254,11 @@ mutex-queued {t} m x h = same-queued h refl refl refl (length-set (t .mutexes) m
 
 -- ---- tasks
 
-pub create-queued : {t : Table} (i base quantum : ℕ) → Queued t → Queued (create i base quantum t)
-unfolding create
-create-queued i base quantum s = put-queued i _ s
-
-pub delete-queued : {t : Table} (i : ℕ) → Queued t → Queued (delete i t)
-unfolding delete
-delete-queued i s = walk-queued _ (put-queued i _ s)
-
-pub changePriority-queued : {t : Table} (i base : ℕ) → Queued t → Queued (changePriority i base t)
-unfolding changePriority
-changePriority-queued i base s = walk-queued i (put-queued i _ s)
-
-pub suspend-queued : {t : Table} (i : ℕ) → Queued t → Queued (suspend i t)
-unfolding suspend
-suspend-queued i s = put-queued i _ s
-
-pub resume-queued : {t : Table} (i : ℕ) → Queued t → Queued (resume i t)
-unfolding resume
-resume-queued i s = put-queued i _ s
-
 -- ---- waits and delays
-
-pub delay-queued : {t : Table} (n : ℕ) → Queued t → Queued (delay n t)
-unfolding delay
-delay-queued n s = put-queued _ _ s
 
 pub ended-queued : {t : Table} (outcome i : ℕ) → Queued t → Queued (ended outcome i t)
 unfolding ended
 ended-queued outcome i s = put-queued i _ (walk-queued _ (put-queued i _ s))
-
-pub blocked-queued : {t : Table} (state object limit : ℕ) → Queued t → Queued (blocked state object limit t)
-unfolding blocked
-blocked-queued state object limit s = put-queued _ _ s
-
-pub taken-queued : {t : Table} → Queued t → Queued (taken t)
-unfolding taken
-taken-queued s = put-queued _ _ s
 
 -- ---- mutex post
 

@@ -1,24 +1,23 @@
 -- Each call leaves what the record of each task alone says: TasksRight and DelaysMarked. Assumes nothing.
 use mathlib.Core.Path.{_≡_, refl, ap, ap₂, _∙_}
 use mathlib.Core.Logic.{_≢_}
-use mathlib.Core.Bool.{true}
 use Prim.Native.Nat.{ℕ, _≤_, _<_}
 use native.Mathlib.Omega.{arith}
 use lib.Dec.{eqb}
 use Rattle.rules.specs.Sizes.{taskCount, lastPriority, mostNested, mostQuantum, plain, delayed, waitsMutex, given, objectDeleted}
-use Rattle.rules.specs.Table.{Table, taskOf, isAble, noTask, withBase, withWork, withSuspend, withLeft, withState, withMark, withOutcome}
+use Rattle.rules.specs.Table.{Table, taskOf, noTask, withBase, withWork, withSuspend, withLeft, withState, withMark, withOutcome}
 use Rattle.rules.specs.Move.{put, rotate, walk, next, away, ready, ended}
 use Rattle.rules.specs.Sound.{objectsIn, marksIn, TaskInRange}
-use Rattle.rules.specs.Task.{created, create, delete, changePriority, suspend, resume}
+use Rattle.rules.specs.Task.{created}
 use Rattle.rules.specs.Time.{callerOf, markIn, delay}
-use Rattle.rules.specs.Object.{limited, blocked, taken}
+use Rattle.rules.specs.Object.{limited}
 use Rattle.rules.specs.Mutex.{released}
 use Rattle.rules.specs.Tick.{turned}
 use Rattle.rules.specs.declared.Task.{Task}
 use Rattle.laws.specs.Settled.{TaskRight, TasksRight, DelaysMarked, Settled, sized}
 use Rattle.laws.specs.Fields.{walk-each}
 use Rattle.laws.specs.Put.{either, put-each, rotate-each}
-use Rattle.laws.specs.Becomes.{Becomes, becomes-each, then-walk, put-becomes, create-becomes, delete-becomes, changePriority-becomes, suspend-becomes, resume-becomes, rotate-becomes, ended-becomes, caller, caller-used, delay-becomes, blocked-becomes, taken-becomes, shorter, turned-one, turned-becomes, freed, released-one, released-each}
+use Rattle.laws.specs.Becomes.{Becomes, becomes-each, then-walk, put-becomes, rotate-becomes, ended-becomes, shorter, turned-one, turned-becomes, freed, released-one, released-each}
 
 -- ---- one record
 
@@ -26,17 +25,17 @@ use Rattle.laws.specs.Becomes.{Becomes, becomes-each, then-walk, put-bec
 in-use : {k : Task} → k .used ≡ 1 → TaskInRange k → (k .state ≡ plain → k .marked ≡ 0) → k .left ≤ k .quantum → TaskRight k
 in-use {k} u r p l = record { inRange = r; freeZero = λ z. absurd (omega arith); plainMark = p; left = l }
 
-free-right : TaskRight noTask
+pub free-right : TaskRight noTask
 unfolding objectsIn marksIn
 free-right = record { inRange = omega arith; freeZero = λ z. refl; plainMark = λ e. refl; left = omega arith }
 
-created-right : {base quantum : ℕ} → base ≤ lastPriority → quantum ≤ mostQuantum → TaskRight (created base quantum)
+pub created-right : {base quantum : ℕ} → base ≤ lastPriority → quantum ≤ mostQuantum → TaskRight (created base quantum)
 unfolding objectsIn marksIn
 created-right b q = in-use refl (omega arith) (λ e. refl) (omega arith)
 
 module _ {k : Task} (r : TaskRight k) where
   -- A working priority no greater than the base.
-  work-right : (p : ℕ) → p ≤ k .base → TaskRight (withWork p k)
+  pub work-right : (p : ℕ) → p ≤ k .base → TaskRight (withWork p k)
   work-right p l =
       record {
         inRange = omega arith;
@@ -61,13 +60,13 @@ module _ {k : Task} (r : TaskRight k) where
   plain-right = record { inRange = omega arith; freeZero = λ z. ap (ready given) (r .freeZero z); plainMark = λ e. refl; left = r .left }
 
   module _ (u : k .used ≡ 1) where
-    base-right : (base : ℕ) → base ≤ lastPriority → TaskRight (withBase base k)
+    pub base-right : (base : ℕ) → base ≤ lastPriority → TaskRight (withBase base k)
     base-right base l = in-use u (omega arith) (r .plainMark) (r .left)
 
-    suspend-right : (n : ℕ) → n ≤ mostNested → TaskRight (withSuspend n k)
+    pub suspend-right : (n : ℕ) → n ≤ mostNested → TaskRight (withSuspend n k)
     suspend-right n l = in-use u (omega arith) (r .plainMark) (r .left)
 
-    outcome-right : (outcome : ℕ) → outcome ≤ objectDeleted → TaskRight (withOutcome outcome k)
+    pub outcome-right : (outcome : ℕ) → outcome ≤ objectDeleted → TaskRight (withOutcome outcome k)
     outcome-right outcome l = in-use u (omega arith) (r .plainMark) (r .left)
 
     away-right : TaskRight (away k)
@@ -79,7 +78,7 @@ module _ {k : Task} (r : TaskRight k) where
     ready-right outcome l = in-use u (omega arith) (λ e. refl) (r .left)
 
     -- A delay, or a wait with its limit.
-    marked-right : (state object n : ℕ) (t : Table) → state ≤ waitsMutex → state ≢ plain → object < objectsIn state
+    pub marked-right : (state object n : ℕ) (t : Table) → state ≤ waitsMutex → state ≢ plain → object < objectsIn state
         → TaskRight (withState state object (withMark 1 (markIn n t) k))
     unfolding marksIn
     marked-right state object n t l d o = in-use u (omega arith) (λ e. absurd (d e)) (r .left)
@@ -88,7 +87,7 @@ module _ {k : Task} (r : TaskRight k) where
     unfolding marksIn
     unmarked-right state object l o = in-use u (omega arith) (λ e. refl) (r .left)
 
-    limited-right : (state object limit : ℕ) (t : Table) → state ≤ waitsMutex → state ≢ plain → object < objectsIn state
+    pub limited-right : (state object limit : ℕ) (t : Table) → state ≤ waitsMutex → state ≢ plain → object < objectsIn state
         → TaskRight (withState state object (limited limit t k))
     limited-right state object limit t l d o =
         either (λ x. TaskRight (withState state object x)) (eqb limit 0) (unmarked-right state object l o) (marked-right state object limit t l d o)
@@ -107,27 +106,7 @@ rotate-tasks i t l old j m = rotate-each (λ n. TaskRight) i t j (left-right (ol
 -- ---- each call: TasksRight
 
 module _ {t : Table} (s : Settled t) where
-  pub create-tasks : (i base quantum : ℕ) → base ≤ lastPriority → quantum ≤ mostQuantum → TasksRight (create i base quantum t)
-  unfolding create
-  create-tasks i base quantum b q = put-tasks _ _ _ (created-right b q) (s .tasks)
-
-  pub delete-tasks : (i : ℕ) → TasksRight (delete i t)
-  unfolding delete
-  delete-tasks i = walk-tasks _ _ (put-tasks _ _ _ free-right (s .tasks))
-
   module _ (i : ℕ) (l : i < taskCount) (u : taskOf t i .used ≡ 1) where
-    pub changePriority-tasks : (base : ℕ) → base ≤ lastPriority → TasksRight (changePriority i base t)
-    unfolding changePriority
-    changePriority-tasks base b = walk-tasks _ _ (put-tasks _ _ _ (base-right (s .tasks i l) u base b) (s .tasks))
-
-    pub suspend-tasks : taskOf t i .suspend < mostNested → TasksRight (suspend i t)
-    unfolding suspend
-    suspend-tasks n = put-tasks _ _ _ (suspend-right (s .tasks i l) u _ (omega arith)) (s .tasks)
-
-    pub resume-tasks : TasksRight (resume i t)
-    unfolding resume
-    resume-tasks = put-tasks _ _ _ (suspend-right (s .tasks i l) u _ (omega (arith, s .tasks i l .inRange .suspend))) (s .tasks)
-
     pub ended-tasks : (outcome : ℕ) → outcome ≤ objectDeleted → TasksRight (ended outcome i t)
     unfolding ended
     ended-tasks outcome o =
@@ -137,19 +116,6 @@ module _ {t : Table} (s : Settled t) where
         put-tasks _ _ _ (ready-right (settled i l) (ap (λ (k : Task). k .used) (b .itself) ∙ u) outcome o) settled
 
   -- The running task.
-  module _ (l : callerOf t < taskCount) (a : isAble (caller t) ≡ true) where
-    pub delay-tasks : (n : ℕ) → TasksRight (delay n t)
-    unfolding delay objectsIn
-    delay-tasks n = put-tasks _ _ _ (marked-right (s .tasks _ l) (caller-used t a) delayed 0 n t (omega arith) (omega arith) (omega arith)) (s .tasks)
-
-    pub blocked-tasks : (state object limit : ℕ) → state ≤ waitsMutex → state ≢ plain → object < objectsIn state → TasksRight (blocked state object limit t)
-    unfolding blocked
-    blocked-tasks state object limit m d o = put-tasks _ _ _ (limited-right (s .tasks _ l) (caller-used t a) state object limit t m d o) (s .tasks)
-
-    pub taken-tasks : TasksRight (taken t)
-    unfolding taken
-    taken-tasks = put-tasks _ _ _ (outcome-right (s .tasks _ l) (caller-used t a) given (omega arith)) (s .tasks)
-
   pub turned-tasks : callerOf t < taskCount → TasksRight (turned t)
   turned-tasks l =
       let less : TasksRight (shorter t) = put-tasks _ _ _ (left-right (s .tasks _ l) _ (omega (arith, s .tasks _ l .left))) (s .tasks) in
@@ -167,26 +133,11 @@ module _ {t : Table} (s : Settled t) where
 abbrev pub DelayMarked : Task → Type 0
 DelayMarked k = k .state ≡ delayed → k .marked ≡ 1
 
-delays-become : {i : ℕ} {k : Task} {t u : Table} → Becomes i k t u → DelayMarked k → DelaysMarked t → DelaysMarked u
+pub delays-become : {i : ℕ} {k : Task} {t u : Table} → Becomes i k t u → DelayMarked k → DelaysMarked t → DelaysMarked u
 delays-become b new old j l = becomes-each (λ n. DelayMarked) b j new (old j l)
 
 module _ {t : Table} (s : Settled t) where
   module _ (i : ℕ) (l : i < taskCount) where
-    pub create-delays : (base quantum : ℕ) → DelaysMarked (create i base quantum t)
-    create-delays base quantum = delays-become (create-becomes l (sized s) base quantum) (omega arith) (s .delays)
-
-    pub delete-delays : DelaysMarked (delete i t)
-    delete-delays = delays-become (delete-becomes l (sized s)) (omega arith) (s .delays)
-
-    pub changePriority-delays : (base : ℕ) → DelaysMarked (changePriority i base t)
-    changePriority-delays base = delays-become (changePriority-becomes l (sized s) base) (s .delays i l) (s .delays)
-
-    pub suspend-delays : DelaysMarked (suspend i t)
-    suspend-delays = delays-become (suspend-becomes l (sized s)) (s .delays i l) (s .delays)
-
-    pub resume-delays : DelaysMarked (resume i t)
-    resume-delays = delays-become (resume-becomes l (sized s)) (s .delays i l) (s .delays)
-
     pub rotate-delays : DelaysMarked (rotate i t)
     rotate-delays = delays-become (rotate-becomes l (sized s)) (s .delays i l) (s .delays)
 
@@ -194,15 +145,6 @@ module _ {t : Table} (s : Settled t) where
     ended-delays outcome = delays-become (ended-becomes l (sized s) outcome) (omega arith) (s .delays)
 
   module _ (l : callerOf t < taskCount) where
-    pub delay-delays : (n : ℕ) → DelaysMarked (delay n t)
-    delay-delays n = delays-become (delay-becomes l (sized s) n) (omega arith) (s .delays)
-
-    pub blocked-delays : (state object limit w : ℕ) → state ≢ delayed → DelaysMarked (walk w (blocked state object limit t))
-    blocked-delays state object limit w d = delays-become (then-walk w (blocked-becomes l (sized s) state object limit)) (λ e. absurd (d e)) (s .delays)
-
-    pub taken-delays : DelaysMarked (taken t)
-    taken-delays = delays-become (taken-becomes l (sized s)) (s .delays _ l) (s .delays)
-
     pub turned-delays : DelaysMarked (turned t)
     turned-delays = delays-become (turned-becomes l (sized s) .1) (s .delays _ l) (s .delays)
 

@@ -10,16 +10,15 @@ use borrow.Author.Tests.{eqb-true, eqb-false}
 use Rattle.rules.specs.Sizes.{taskCount, given}
 use Rattle.rules.specs.Table.{Table, taskOf, ableQueue, firstIn, written, isAble, withRunning, withDepth}
 use Rattle.rules.specs.Move.{ready, rotate, walk, ended, chosen}
-use Rattle.rules.specs.Task.{create, delete, changePriority, suspend, resume}
+use Rattle.rules.specs.Task.{suspend}
 use Rattle.rules.specs.Time.{callerOf}
-use Rattle.rules.specs.Object.{taken}
 use Rattle.rules.specs.Mutex.{released}
 use Rattle.rules.specs.Tick.{turned}
 use Rattle.rules.specs.declared.Task.{Task}
 use Rattle.laws.specs.Settled.{Queued, RunsRight, Settled, sized}
 use Rattle.laws.specs.Fields.{frame, bare, bare-able}
 use Rattle.laws.specs.Put.{either}
-use Rattle.laws.specs.Becomes.{Becomes, becomes-each, create-becomes, delete-becomes, changePriority-becomes, suspend-becomes, resume-becomes, rotate-becomes, ended-becomes, caller, taken-becomes, turned-becomes, released-each, released-frame}
+use Rattle.laws.specs.Becomes.{Becomes, becomes-each, rotate-becomes, ended-becomes, caller, turned-becomes, released-each, released-frame}
 use Rattle.laws.specs.Stands.{Able, able, able-there, first-range, first-there}
 
 -- ---- the choice
@@ -95,29 +94,10 @@ becomes-runs {i} {k} {t} {u} b keeps =
     (λ own. bare-able (caller t) ∙ a)
     refl)
 
--- A call that is refused while locked.
-pub unlocked-runs : {i : ℕ} {k : Task} {t u : Table} → Becomes i k t u → t .depth ≡ 0 → RunsOn t → RunsOn u
-unlocked-runs b z = becomes-runs b (λ d. absurd (d z))
-
 -- ---- each call
 
 module _ {t : Table} (s : Settled t) (r : RunsOn t) where
   module _ (i : ℕ) (l : i < taskCount) where
-    pub create-runs : (base quantum : ℕ) → RunsOn (create i base quantum t)
-    create-runs base quantum = becomes-runs (create-becomes l (sized s) base quantum) (λ d e a. record { used = refl; state = refl; suspend = refl }) r
-
-    pub delete-runs : (t .depth ≢ 0 → t .running ≢ written i) → RunsOn (delete i t)
-    delete-runs other = becomes-runs (delete-becomes l (sized s)) (λ d e. absurd (other d e)) r
-
-    pub changePriority-runs : (base : ℕ) → RunsOn (changePriority i base t)
-    changePriority-runs base = becomes-runs (changePriority-becomes l (sized s) base) (λ d e a. record { used = a .used; state = a .state; suspend = a .suspend }) r
-
-    pub suspend-runs : (t .depth ≢ 0 → t .running ≢ written i) → RunsOn (suspend i t)
-    suspend-runs other = becomes-runs (suspend-becomes l (sized s)) (λ d e. absurd (other d e)) r
-
-    pub resume-runs : RunsOn (resume i t)
-    resume-runs = becomes-runs (resume-becomes l (sized s)) (λ d e a. record { used = a .used; state = a .state; suspend = omega (arith, a .suspend) }) r
-
     pub rotate-runs : RunsOn (rotate i t)
     rotate-runs = becomes-runs (rotate-becomes l (sized s)) (λ d e a. record { used = a .used; state = a .state; suspend = a .suspend }) r
 
@@ -126,9 +106,6 @@ module _ {t : Table} (s : Settled t) (r : RunsOn t) where
 
   caller-task : callerOf t < taskCount
   caller-task = omega (arith, r .range)
-
-  pub taken-runs : RunsOn (taken t)
-  taken-runs = becomes-runs (taken-becomes caller-task (sized s)) (λ d e a. record { used = a .used; state = a .state; suspend = a .suspend }) r
 
   pub turned-runs : RunsOn (turned t)
   turned-runs = becomes-runs (turned-becomes caller-task (sized s) .1) (λ d e a. record { used = a .used; state = a .state; suspend = a .suspend }) r

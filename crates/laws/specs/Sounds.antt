@@ -14,7 +14,7 @@ use Rattle.rules.specs.declared.Call.{Call}
 use Rattle.laws.specs.Settled.{Settled, NotDue}
 use Rattle.laws.specs.Running.{chosen-runs, chosen-one}
 use Rattle.laws.specs.Kept.{list-settled}
-use Rattle.laws.specs.Ending.{Unchosen}
+use Rattle.laws.specs.Moves.{Unchosen}
 use Rattle.laws.specs.Accepted.{accepts}
 use Rattle.laws.specs.Calls.{change-unchosen}
 
