@@ -1,25 +1,17 @@
 // A cue player over `queue`, with no kernel: cues stand in a queue by their levels, the smallest first; one changes its level and
 // moves; a few calls are refused; then all are played in order.
-use libc::STDOUT_FILENO;
 use queue::Answer;
 use queue::Head;
-
-fn say(text: &[u8]) {
-    io::write_all(STDOUT_FILENO, text);
-}
-
-fn say_number(n: u8) {
-    io::print_decimal(STDOUT_FILENO, n as u64);
-}
+use streams::Output;
 
 // What the queue answered, as a line.
-fn say_answer(a: Answer) {
+fn say_answer(output: Output, a: Answer) -> Output {
     match a {
-        Answer::Done => say(b"done\n"),
-        Answer::BeyondKeys => say(b"refused: no such cue\n"),
-        Answer::AlreadyThere => say(b"refused: stands there already\n"),
-        Answer::NotThere => say(b"refused: does not stand there\n"),
-        Answer::Full => say(b"refused: no free slot\n"),
+        Answer::Done => output.say(b"done\n"),
+        Answer::BeyondKeys => output.say(b"refused: no such cue\n"),
+        Answer::AlreadyThere => output.say(b"refused: stands there already\n"),
+        Answer::NotThere => output.say(b"refused: does not stand there\n"),
+        Answer::Full => output.say(b"refused: no free slot\n"),
     }
 }
 
@@ -31,60 +23,76 @@ fn level_of(levels: &[u8], cue: u8) -> u8 {
     0
 }
 
-fn line_up(cues: &mut [u8], levels: &[u8], cue: u8) {
-    say(b"cue ");
-    say_number(cue);
-    say(b": ");
-    say_answer(queue::insert(cues, levels, cue));
+fn line_up(output: Output, cues: &mut [u8], levels: &[u8], cue: u8) -> Output {
+    let begun = output.say(b"cue ").say_number(cue as u64).say(b": ");
+    say_answer(begun, queue::insert(cues, levels, cue))
 }
 
-// Plays the first cue and takes it out of the queue; says whether there was one.
-fn play_first(cues: &mut [u8], levels: &[u8]) -> bool {
+// What has become of the output, and whether there was a cue to play.
+struct Played {
+    output: Output,
+    was_one: bool,
+}
+
+// Plays the first cue and takes it out of the queue.
+fn play_first(output: Output, cues: &mut [u8], levels: &[u8]) -> Played {
     let head = queue::first(cues);
     match head {
         Head::Is(cue) => {
-            say(b"playing cue ");
-            say_number(cue);
-            say(b" of level ");
-            say_number(level_of(levels, cue));
-            say(b"\n");
+            let level = level_of(levels, cue);
             queue::remove(cues, cue);
-            true
+            Played {
+                output: output
+                    .say(b"playing cue ")
+                    .say_number(cue as u64)
+                    .say(b" of level ")
+                    .say_number(level as u64)
+                    .say(b"\n"),
+                was_one: true,
+            }
         }
-        Head::Nobody => false,
+        Head::Nobody => Played {
+            output: output,
+            was_one: false,
+        },
     }
 }
 
 // Plays until no cue is left: each turn takes one out, so there are no more turns than slots.
-fn play_all(cues: &mut [u8], levels: &[u8]) {
+fn play_all(output: Output, cues: &mut [u8], levels: &[u8]) -> Output {
+    let mut printed = output;
     let mut turns = cues.len();
     while 0 < turns {
-        if !play_first(cues, levels) {
-            return;
+        let played = play_first(printed, cues, levels);
+        printed = played.output;
+        if !played.was_one {
+            return printed;
         }
         turns -= 1;
     }
+    printed
 }
 
 fn main() {
     let mut levels: [u8; 7] = [3, 1, 2, 1, 3, 2, 1];
     let mut cues: [u8; 6] = [0; 6];
-    line_up(&mut cues, &levels, 0);
-    line_up(&mut cues, &levels, 1);
-    line_up(&mut cues, &levels, 2);
-    line_up(&mut cues, &levels, 3);
-    line_up(&mut cues, &levels, 4);
-    line_up(&mut cues, &levels, 3);
-    line_up(&mut cues, &levels, 9);
+    let mut output = Output::start();
+    output = line_up(output, &mut cues, &levels, 0);
+    output = line_up(output, &mut cues, &levels, 1);
+    output = line_up(output, &mut cues, &levels, 2);
+    output = line_up(output, &mut cues, &levels, 3);
+    output = line_up(output, &mut cues, &levels, 4);
+    output = line_up(output, &mut cues, &levels, 3);
+    output = line_up(output, &mut cues, &levels, 9);
     levels[4] = 1;
-    say(b"cue 4 to level 1: ");
-    say_answer(queue::move_behind(&mut cues, &levels, 4));
-    say(b"cue 5 to level 1: ");
-    say_answer(queue::move_behind(&mut cues, &levels, 5));
-    line_up(&mut cues, &levels, 5);
-    line_up(&mut cues, &levels, 6);
+    output = output.say(b"cue 4 to level 1: ");
+    output = say_answer(output, queue::move_behind(&mut cues, &levels, 4));
+    output = output.say(b"cue 5 to level 1: ");
+    output = say_answer(output, queue::move_behind(&mut cues, &levels, 5));
+    output = line_up(output, &mut cues, &levels, 5);
+    output = line_up(output, &mut cues, &levels, 6);
     if queue::is_ordered(&cues, &levels) {
-        say(b"in order\n");
+        output = output.say(b"in order\n");
     }
-    play_all(&mut cues, &levels);
+    play_all(output, &mut cues, &levels).end(b"cues: cannot write");
 }

@@ -2,114 +2,127 @@
 ghost use mathlib.Core.Path.{_≡_};
 ghost use lib.ListN.{length};
 ghost use Rattle.table.specs.Image.{Image};
-use libc::STDOUT_FILENO;
+use streams::Output;
 
-fn say(text: &[u8]) {
-    io::write_all(STDOUT_FILENO, text);
-}
-
-fn say_bad() {
+fn say_bad(output: Output) -> Output {
     let mut line = [0u8; 4];
     tape::write_bad(&mut line, 0);
-    say(&line);
+    output.say(&line)
 }
 
 // A tape that ends within a call, or has a kind that the list lacks, is `bad` there.
-fn play_from(image: &mut [u8], tape: &[u8])
+fn play_from(output: Output, image: &mut [u8], tape: &[u8]) -> Output
     requires { ⌜ Image (now image) ⌝ }
 {
-    let mut out = [0u8; 4096];
-    let part = player::play_part(image, tape, &mut out);
+    let mut lines = [0u8; 4096];
+    let part = player::play_part(image, tape, &mut lines);
     let read = part.read;
     let written = part.written;
     let ended = part.ended;
-    say(&out[0..written]);
+    let printed = output.say(&lines[0..written]);
     if ended | (read < tape.len()) {
-        say_bad();
+        return say_bad(printed);
     }
+    printed
 }
 
-fn play(tape: &[u8]) {
+fn play(output: Output, tape: &[u8]) -> Output {
     let mut image = [0u8; 1702];
-    play_from(&mut image, tape);
+    play_from(output, &mut image, tape)
 }
 
-fn reel(name: &[u8], tape: &[u8]) {
-    say(name);
-    play(tape);
+fn reel(output: Output, name: &[u8], tape: &[u8]) -> Output {
+    play(output.say(name), tape)
 }
 
 // Those that are proved of the rules too.
-fn proved_cases() {
-    reel(
+fn proved_cases(start: Output) -> Output {
+    let mut output = start;
+    output = reel(
+        output,
         b"P1, inheritance\n",
         b"\x01\x03\x0a\x02\x00\x20\x00\x22\x00\x01\x00\x00\x00\x00\x01\x01\x05\x00\x00\x22\x00\x01\x00\x00\x00\x00\x01\x02\x07\x00\x00\x23\x00",
     );
-    reel(
+    output = reel(
+        output,
         b"P2, the first of two posts\n",
         b"\x01\x03\x0a\x01\x00\x20\x00\x20\x01\x22\x00\x01\x00\x00\x00\x00\x22\x01\x01\x00\x00\x00\x00\x01\x01\x05\x01\x00\x22\x00\x01\x00\x00\x00\x00\x01\x02\x07\x01\x00\x07\x05\x00\x00\x00\x22\x01\x01\x00\x00\x00\x00\x08\x03\x01\x04\x06\x01\x00\x01\x05\x08\x01\x00\x23\x00",
     );
-    reel(
+    output = reel(
+        output,
         b"P3, a wait times out\n",
         b"\x01\x04\x14\x01\x00\x20\x00\x20\x01\x22\x00\x01\x00\x00\x00\x00\x01\x03\x0a\x01\x00\x22\x01\x01\x00\x00\x00\x00\x22\x00\x01\x00\x00\x00\x00\x01\x01\x02\x01\x00\x22\x01\x01\x01\x00\x00\x00\x0b\x01\x07\x09\x01\x00\x01\x08\x0b\x01\x00",
     );
-    reel(
+    output = reel(
+        output,
         b"P4, a ring\n",
         b"\x01\x04\x14\x01\x00\x20\x00\x20\x01\x22\x01\x01\x00\x00\x00\x00\x01\x03\x0a\x01\x00\x22\x00\x01\x00\x00\x00\x00\x22\x01\x01\x00\x00\x00\x00\x22\x00\x01\x00\x00\x00\x00\x24\x00",
     );
-    reel(
+    output = reel(
+        output,
         b"P6, counts at the end of their range\n",
         b"\x10\x00\xff\xff\xff\xff\x13\x00\x10\x01\xfe\xff\xff\xff\x13\x01\x93\x01",
     );
-    reel(
+    output = reel(
+        output,
         b"P8, lock and unlock\n",
         b"\x01\x00\x05\x01\x00\x09\x01\x01\x04\x01\x00\x0a",
     );
-    reel(
+    output = reel(
+        output,
         b"P9, turns\n",
         b"\x01\x01\x05\x02\x00\x01\x02\x05\x01\x00\x0b\x0b\x0b",
     );
-    reel(b"P10, a tick on the fresh table\n", b"\x0b");
+    output = reel(output, b"P10, a tick on the fresh table\n", b"\x0b");
+    output
 }
 
 // Those that are only run, and the easy slips that the proved ones do not have.
-fn run_only() {
-    reel(
+fn run_only(start: Output) -> Output {
+    let mut output = start;
+    output = reel(
+        output,
         b"base 62 and 63, task 31 and 32, yield alone, a free semaphore when locked\n",
         b"\x01\x00\x3e\x01\x00\x01\x01\x3f\x01\x00\x01\x1f\x05\x01\x00\x01\x20\x05\x01\x00\x06\x10\x00\x01\x00\x00\x00\x09\x12\x00\x01\x00\x00\x00\x00\x12\x00\x01\x00\x00\x00\x00\x12\x00\x00\x00\x00\x00\x00\x06\x02\x1f\x04\x1f\x07\x01\x00\x00\x00\x07\x00\x00\x00\x00",
     );
-    reel(
+    output = reel(
+        output,
         b"a suspended waiter\n",
         b"\x10\x00\x00\x00\x00\x00\x01\x00\x05\x01\x00\x12\x00\x01\x03\x00\x00\x00\x04\x00\x13\x00\x05\x00\x12\x00\x01\x02\x00\x00\x00\x04\x00\x0b\x0b\x05\x00\x05\x00",
     );
-    reel(
+    output = reel(
+        output,
         b"a mark is met, not passed\n",
         b"\x0b\x0b\x0b\x0b\x0b\x01\x00\x05\x01\x00\x07\xff\xff\xff\xff\x0b\x0b\x0b\x0b\x0b",
     );
-    reel(
+    output = reel(
+        output,
         b"a ring falls\n",
         b"\x01\x04\x31\x01\x00\x20\x07\x22\x07\x01\x00\x00\x00\x00\x20\x02\x01\x0c\x19\x01\x00\x22\x02\x01\x00\x00\x00\x00\x01\x12\x16\x01\x00\x22\x02\x01\x00\x00\x00\x00\x22\x07\x01\x00\x00\x00\x00\x22\x02\x01\x00\x00\x00\x00\x24\x02\x01\x05\x17\x01\x00\x07\x32\x00\x00\x00\x07\x32\x00\x00\x00\x24\x02\x24\x07",
     );
-    reel(
+    output = reel(
+        output,
         b"equal marks\n",
         b"\x20\x00\x01\x09\x14\x01\x00\x22\x00\x01\x00\x00\x00\x00\x01\x08\x14\x01\x00\x22\x00\x01\x02\x00\x00\x00\x07\x02\x00\x00\x00\x01\x07\x14\x01\x00\x07\x02\x00\x00\x00\x01\x06\x0a\x01\x00\x22\x00\x01\x02\x00\x00\x00\x0b\x0b",
     );
-    reel(
+    output = reel(
+        output,
         b"locked, and none able\n",
         b"\x09\x01\x00\x05\x01\x00\x07\x01\x00\x00\x00\x0b\x06\x0a",
     );
-    reel(b"an empty tape\n", b"");
+    output = reel(output, b"an empty tape\n", b"");
+    output
 }
 
 // P5: a task is created, delays for 3 ticks, and three ticks come. No tape of a sensible length reaches the counter that it starts at.
-fn wrapping_mark() {
+fn wrapping_mark(output: Output) -> Output {
     let mut image = [0u8; 1702];
     table::cells::set_tick(&mut image, 4294967294);
-    say(b"P5, a mark behind the wrap\n");
     play_from(
+        output.say(b"P5, a mark behind the wrap\n"),
         &mut image,
         b"\x01\x00\x05\x00\x00\x07\x03\x00\x00\x00\x0b\x0b\x0b",
-    );
+    )
 }
 
 // From byte 7 on, 251 waits for mutex 0 that do not block: their other bytes are zero.
@@ -124,39 +137,44 @@ fn write_waits(tape: &mut [u8])
 }
 
 // P7: a task, a mutex, and the waits.
-fn nested() {
+fn nested(output: Output) -> Output {
     let mut tape = [0u8; 1764];
     tape[0] = 1;
     tape[5] = 32;
     write_waits(&mut tape);
-    reel(b"P7, 250 nested waits\n", &tape);
+    reel(output, b"P7, 250 nested waits\n", &tape)
 }
 
 // A kind with 0 to 6 bytes behind it, all zero: cut, whole, or whole and then a kind 0, which the list lacks.
-fn each_length(kind: u8) {
+fn each_length(output: Output, kind: u8) -> Output {
     let mut tape = [0u8; 7];
     tape[0] = kind;
+    let mut printed = output;
     let mut n = 1;
     while n <= 7 {
-        play(&tape[0..n]);
+        printed = play(printed, &tape[0..n]);
         n += 1;
     }
+    printed
 }
 
 // Every kind that a byte can name, with the interrupt bit and without.
-fn every_kind() {
-    say(b"every kind at every length\n");
+fn every_kind(output: Output) -> Output {
+    let mut printed = output.say(b"every kind at every length\n");
     let mut n = 0usize;
     while n < 256 {
-        each_length(n as u8);
+        printed = each_length(printed, n as u8);
         n += 1;
     }
+    printed
 }
 
 fn main() {
-    proved_cases();
-    wrapping_mark();
-    nested();
-    run_only();
-    every_kind();
+    let mut output = Output::start();
+    output = proved_cases(output);
+    output = wrapping_mark(output);
+    output = nested(output);
+    output = run_only(output);
+    output = every_kind(output);
+    output.end(b"reels: cannot write");
 }

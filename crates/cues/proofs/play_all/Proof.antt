@@ -8,10 +8,10 @@ use Rattle.cues.proofs.play_all.Lts as lts
 use Rattle.cues.proofs.play_first.Reads as play-first-reads
 
 abbrev Inv-loop : tie.InvT-loop
-Inv-loop cues₀ levels turns₀ cues turns = length cues ≡ length cues₀
+Inv-loop cues₀ levels printed₀ turns₀ cues printed turns = length cues ≡ length cues₀
 
 abbrev μ-loop : tie.MeasureT-loop
-μ-loop cues₀ levels turns₀ cues turns = turns
+μ-loop cues₀ levels printed₀ turns₀ cues printed turns = turns
 
 loop-holds : tie.Need-loop-holds Inv-loop μ-loop
 loop-holds c = search needs

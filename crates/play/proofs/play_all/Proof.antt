@@ -6,11 +6,14 @@ use Rattle.play.proofs.play_all.Statement.{statement}
 use Rattle.play.proofs.play_all.Tie as tie
 
 abbrev Inv-loop : tie.InvT-loop
-Inv-loop image₀ input₀ out₀ have₀ turns₀ image input out have turns =
-    (length image ≡ length image₀) × (length input ≡ length input₀) × (length out ≡ length out₀) × (have ≤ length input)
+Inv-loop tape image₀ input₀ lines₀ output₀ have₀ turns₀ image input lines output have turns =
+    (length image ≡ length image₀) × (length input ≡ length input₀) × (length lines ≡ length lines₀) × (have ≤ length input)
 
 abbrev μ-loop : tie.MeasureT-loop
-μ-loop image₀ input₀ out₀ have₀ turns₀ image input out have turns = turns
+μ-loop tape image₀ input₀ lines₀ output₀ have₀ turns₀ image input lines output have turns = turns
+
+start-requires : tie.Need-start-requires Inv-loop μ-loop
+start-requires c κs = search needs
 
 loop-holds : tie.Need-loop-holds Inv-loop μ-loop
 loop-holds c = search needs
@@ -57,6 +60,7 @@ play-all-spec =
     (tie.spec
     Inv-loop
     μ-loop
+    start-requires
     loop-holds
     turn-requires
     same-length

@@ -15,22 +15,22 @@ part-play-part-end c = search needs
 play-part-requires : tie.Need-play-part-requires
 play-part-requires c κs = search needs
 
-sub-write-all : tie.Need-sub-write-all
-sub-write-all c = search needs
+sub-say : tie.Need-sub-say
+sub-say c = search needs
 
-part-write-all-start : tie.Need-part-write-all-start
-part-write-all-start c = search needs
+part-say-start : tie.Need-part-say-start
+part-say-start c = search needs
 
-part-write-all-end : tie.Need-part-write-all-end
-part-write-all-end c =
+part-say-end : tie.Need-part-say-end
+part-say-end c =
     let k = written-within (c .before .before .before .before .before .play-part .ensures) in
     search (needs, k)
 
-write-all-requires : tie.Need-write-all-requires
-write-all-requires c κs = search needs
+say-requires : tie.Need-say-requires
+say-requires c κs = search needs
 
-print-bad-requires : tie.Need-print-bad-requires
-print-bad-requires c κs = search needs
+say-bad-requires : tie.Need-say-bad-requires
+say-bad-requires c κs = search needs
 
 keep-requires : tie.Need-keep-requires
 keep-requires c κs = search needs
@@ -55,11 +55,11 @@ play-some-spec =
     part-play-part-start
     part-play-part-end
     play-part-requires
-    sub-write-all
-    part-write-all-start
-    part-write-all-end
-    write-all-requires
-    print-bad-requires
+    sub-say
+    part-say-start
+    part-say-end
+    say-requires
+    say-bad-requires
     keep-requires
     same-length
     same-length-2

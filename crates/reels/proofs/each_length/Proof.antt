@@ -4,10 +4,10 @@ use Rattle.reels.proofs.each_length.Statement.{statement}
 use Rattle.reels.proofs.each_length.Tie as tie
 
 abbrev Inv-loop : tie.InvT-loop
-Inv-loop kind tape n₀ n = n ≤ 8
+Inv-loop kind tape printed₀ n₀ printed n = n ≤ 8
 
 abbrev μ-loop : tie.MeasureT-loop
-μ-loop kind tape n₀ n = 8 - n
+μ-loop kind tape printed₀ n₀ printed n = 8 - n
 
 array-write-tape : tie.Need-array-write-tape Inv-loop μ-loop
 array-write-tape c = search needs

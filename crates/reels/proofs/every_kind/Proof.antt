@@ -4,10 +4,10 @@ use Rattle.reels.proofs.every_kind.Statement.{statement}
 use Rattle.reels.proofs.every_kind.Tie as tie
 
 abbrev Inv-loop : tie.InvT-loop
-Inv-loop n₀ n = n ≤ 256
+Inv-loop printed₀ n₀ printed n = n ≤ 256
 
 abbrev μ-loop : tie.MeasureT-loop
-μ-loop n₀ n = 256 - n
+μ-loop printed₀ n₀ printed n = 256 - n
 
 slice-aggregate-say : tie.Need-slice-aggregate-say Inv-loop μ-loop
 slice-aggregate-say c = search needs
