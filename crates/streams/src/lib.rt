@@ -48,7 +48,7 @@ pub fn read_some(fd: i32, buf: &mut [u8]) -> isize
 }
 
 // As `libc::write`, in the same way.
-pub fn write_some(fd: i32, buf: &[u8]) -> isize
+fn write_some(fd: i32, buf: &[u8]) -> isize
     ensures { λ r. ⌜ Moved (length (now (buf .entry))) r ⌝ }
 {
     let mut turns = u64::MAX;
@@ -63,7 +63,7 @@ pub fn write_some(fd: i32, buf: &[u8]) -> isize
 }
 
 // Writes all of the bytes, and answers whether it could. A write that takes no byte counts as one that failed, or the loop might not end.
-pub fn write_whole(fd: i32, buf: &[u8]) -> bool {
+fn write_whole(fd: i32, buf: &[u8]) -> bool {
     let mut done = 0;
     while done < buf.len() {
         let rest = &buf[done..];
@@ -78,7 +78,7 @@ pub fn write_whole(fd: i32, buf: &[u8]) -> bool {
 
 // Closes what was written to, and answers whether nothing of it is lost: there are disks that say only here that they are full. A descriptor
 // that is not open has taken nothing.
-pub fn close_written(fd: i32) -> bool {
+fn close_written(fd: i32) -> bool {
     if libc::close(fd) == 0 {
         return true;
     }

@@ -1,6 +1,5 @@
 -- `pause` is safe and ends: a walk of its MIR by hand, since the borrow checker does not cover a reference to a struct. Both spans are lent for
 -- the call, each for a lifetime of its own, and come back when it has ended, as they came or at whatever the call left there.
--- Assumes nothing.
 use mathlib.Core.Path.{refl}
 use Prim.Native.Nat.{ℕ}
 use mathlib.Core.List.{[], _∷_, List}
