@@ -9,9 +9,9 @@ use Rattle.rules.specs.Sizes.{taskCount}
 use Rattle.rules.specs.Afresh.{lt-or-le}
 use Rattle.rules.specs.Table.{Table, taskOf, queueCount, placeOf, isAble, noTask, firstIn}
 use Rattle.rules.specs.Move.{put, walk, next, away, ready, ended, endedAll}
-use Rattle.laws.specs.Put.{put-out, task-put-same}
-use Rattle.laws.specs.Fields.{walk-place}
-use Rattle.laws.specs.Stands.{delayed-place}
+use Rattle.laws.specs.queues.Put.{put-out, task-put-same}
+use Rattle.laws.specs.queues.Fields.{walk-place}
+use Rattle.laws.specs.queues.Stands.{delayed-place}
 
 pub ended-is : (outcome i : ℕ) (t left settled : Table) → left ≡ put i (away (taskOf t i)) t → settled ≡ walk (next t i) left
     → put i (ready outcome (taskOf settled i)) settled ≡ ended outcome i t

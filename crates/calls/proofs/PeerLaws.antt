@@ -15,10 +15,10 @@ use Rattle.rules.specs.Decides.{Decides, equals, at-most, itself, fails, both}
 use Rattle.rules.specs.declared.Task.{Task}
 use Rattle.rules.specs.Table.{Table, taskOf, noTask, isAble}
 use Rattle.rules.specs.Move.{hasPeer}
-use Rattle.laws.specs.Order.{Peer}
-use Rattle.laws.specs.Found.{peer}
-use Rattle.laws.specs.Stands.{able}
-use Rattle.laws.specs.Tally.{tally, tally-two}
+use Rattle.laws.specs.order.Order.{Peer}
+use Rattle.laws.specs.numbers.Found.{peer}
+use Rattle.laws.specs.queues.Stands.{able}
+use Rattle.laws.specs.keeps.Tally.{tally, tally-two}
 use Rattle.calls.specs.Peers.{isPlainWith, plainBelow, isAlone, second, isPeer, isSecondPeer}
 
 -- ---- how many are plain and of one working priority

@@ -5,8 +5,8 @@ use native.Mathlib.Omega.{arith}
 use Rattle.rules.specs.Sizes.{delayed}
 use Rattle.rules.specs.Table.{Table, taskOf, queueCount, isAble, placeOf, noTask}
 use Rattle.rules.specs.declared.Task.{Task}
-use Rattle.laws.specs.Put.{place-same}
-use Rattle.laws.specs.Stands.{delayed-place}
+use Rattle.laws.specs.queues.Put.{place-same}
+use Rattle.laws.specs.queues.Stands.{delayed-place}
 
 -- Use, state, suspend count and object decide where a task stands.
 pub same-place : (t : Table) (i : ℕ) (old new : Task) → old ≡ taskOf t i → new .used ≡ old .used → new .state ≡ old .state → new .suspend ≡ old .suspend → new .object ≡ old .object

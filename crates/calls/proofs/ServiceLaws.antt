@@ -10,7 +10,7 @@ use Rattle.rules.specs.Table.{Table, taskOf, isAble}
 use Rattle.rules.specs.Move.{peerBelow}
 use Rattle.rules.specs.Step.{changes, answerTo}
 use Rattle.rules.specs.declared.Call.{Call}
-use Rattle.laws.specs.Accepted.{Accepted, answers}
+use Rattle.laws.specs.numbers.Accepted.{Accepted, answers}
 use Rattle.table.specs.Image.{view}
 use Rattle.calls.specs.Served.{Served}
 use Rattle.calls.proofs.Ends.{refused, served}

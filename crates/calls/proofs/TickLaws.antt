@@ -13,7 +13,7 @@ use Rattle.rules.specs.Table.{Table, taskOf, withLeft}
 use Rattle.rules.specs.Move.{put, rotate, ended, hasPeer}
 use Rattle.rules.specs.Time.{callerOf}
 use Rattle.rules.specs.Tick.{turned, isDue, dueEnded, dueBelow}
-use Rattle.laws.specs.Ending.{ended-rest}
+use Rattle.laws.specs.queues.Fields.{ended-rest}
 use Rattle.calls.specs.Marks.{isAt, someAt, dueFrom}
 
 -- ---- two tests at once, and a third

@@ -6,8 +6,8 @@ use Rattle.rules.specs.Sizes.{taskCount}
 use Rattle.rules.specs.Table.{Table, taskOf}
 use Rattle.rules.specs.Walk.{walkOn}
 use Rattle.rules.specs.Move.{next, freshIn, putWork}
-use Rattle.laws.specs.Walk.{walkOn-turn}
-use Rattle.laws.specs.Graph.{work-same}
+use Rattle.laws.specs.chains.Walk.{walkOn-turn}
+use Rattle.laws.specs.chains.Graph.{work-same}
 
 -- A task that works at the right number stays as it is, and the walk goes on from the holder for which it waits.
 pub walk-passes : (k i : ℕ) (t : Table) → k ≢ 0 → i < taskCount → taskOf t i .work ≡ freshIn t i

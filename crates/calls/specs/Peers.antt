@@ -6,7 +6,7 @@ use lib.ListN.{getD}
 use Rattle.rules.specs.Sizes.{taskCount, plain}
 use Rattle.rules.specs.declared.Task.{Task}
 use Rattle.rules.specs.Table.{Table, taskOf, queueOf, ableQueue, isAble}
-use Rattle.laws.specs.Tally.{tally}
+use Rattle.laws.specs.keeps.Tally.{tally}
 
 -- ---- none, where no other plain task has it
 

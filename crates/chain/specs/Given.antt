@@ -13,7 +13,7 @@ use Rattle.rules.specs.Table.{Table}
 use Rattle.rules.specs.Move.{next, baseOf, freshIn, putWork}
 use Rattle.rules.specs.Sound.{Shaped}
 use Rattle.rules.specs.Tested.{ends}
-use Rattle.laws.specs.Graph.{work-base, work-fresh}
+use Rattle.laws.specs.chains.Graph.{work-base, work-fresh}
 use Rattle.chain.specs.Carry.{lower, Settled, settled-fresh}
 
 -- Nothing is given yet: no byte is greater than 255.

@@ -9,7 +9,7 @@ use lib.Bits.{bitOr, or-zero-r, or-comm, and-le-r, or-add-and}
 use Rattle.rules.specs.Sizes.{taskCount, waitsMutex}
 use Rattle.rules.specs.Table.{Table, taskOf}
 use Rattle.rules.specs.Move.{holderOf, next, baseOf}
-use Rattle.laws.specs.Graph.{next-is, waits-none}
+use Rattle.laws.specs.chains.Graph.{next-is, waits-none}
 use Rattle.chain.specs.Carry.{Settled, settled-past}
 
 -- The states of the n tasks from a on, one bit over another.

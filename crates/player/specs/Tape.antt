@@ -5,7 +5,7 @@ use Prim.Native.Nat.{ℕ, _*_, _≤_}
 use Rattle.rules.specs.Table.{freshTable}
 use Rattle.rules.specs.Step.{serve}
 use Rattle.rules.specs.Tape.{Bytes, tape}
-use Rattle.laws.specs.Tape.{tape-served}
+use Rattle.laws.specs.numbers.Tape.{tape-served}
 use Rattle.tape.specs.Next.{nextIn}
 use Rattle.tape.specs.Play.{plays}
 use Rattle.tape.specs.Prints.{prints, plays-more}

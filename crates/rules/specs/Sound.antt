@@ -121,8 +121,9 @@ pub record TaskRight (k : Task) : Type 0 where
   -- "All fields are in range; a free number has zero fields"
   pub inRange : TaskInRange k
   pub freeZero : k .used ≡ 0 → k ≡ noTask
-  -- "A plain task has no due mark", "What is left is at most the quantum."
+  -- "A plain task has no due mark, a delayed one has one", "What is left is at most the quantum."
   pub plainMark : k .state ≡ plain → k .marked ≡ 0
+  pub delayMark : k .state ≡ delayed → k .marked ≡ 1
   pub left : k .left ≤ k .quantum
 
 unfoldable pub isTaskRight : Task → Bool
@@ -130,14 +131,11 @@ isTaskRight k =
     isTaskInRange k
     && (implies (eqb (k .used) 0) (isNoTask k)
     && (implies (eqb (k .state) plain) (eqb (k .marked) 0)
-    && leb (k .left) (k .quantum)))
+    && (implies (eqb (k .state) delayed) (eqb (k .marked) 1)
+    && leb (k .left) (k .quantum))))
 
 abbrev pub TasksRight : Table → Type 0
 TasksRight t = Each taskCount (λ i. TaskRight (taskOf t i))
-
--- "a delayed one has one"; apart, since a task that has left its queue is delayed without a mark until its chain has moved
-abbrev pub DelaysMarked : Table → Type 0
-DelaysMarked t = Each taskCount (λ i. taskOf t i .state ≡ delayed → taskOf t i .marked ≡ 1)
 
 -- ---- an object
 
@@ -234,7 +232,6 @@ pub record Settled (t : Table) : Type 0 where
   pub queued : Queued t
   pub worked : WorkedOut t
   pub tasks : TasksRight t
-  pub delays : DelaysMarked t
   pub objects : ObjectsRight t
   pub tick : t .tick < ticksRound
   pub depth : t .depth ≤ mostNested
@@ -244,10 +241,9 @@ isSettled t =
     isQueued t
     && (isWorked t
     && (each taskCount (λ i. isTaskRight (taskOf t i))
-    && (each taskCount (λ i. implies (eqb (taskOf t i .state) delayed) (eqb (taskOf t i .marked) 1))
     && (isObjectsRight t
     && (ltb (t .tick) ticksRound
-    && leb (t .depth) mostNested)))))
+    && leb (t .depth) mostNested))))
 
 -- ---- what holds between calls alone
 

@@ -94,8 +94,9 @@ task-right k =
     first (λ r. r .inRange) (task-in-range k) λ inRange.
     first (λ r. r .freeZero) (if-so equals (no-task k)) λ freeZero.
     first (λ r. r .plainMark) (if-so equals equals) λ plainMark.
+    first (λ r. r .delayMark) (if-so equals equals) λ delayMark.
     last (λ r. r .left) at-most λ left.
-    record { inRange = inRange; freeZero = freeZero; plainMark = plainMark; left = left }
+    record { inRange = inRange; freeZero = freeZero; plainMark = plainMark; delayMark = delayMark; left = left }
 
 pub semaphore-right : (x : Semaphore) → Decides (isSemaphoreRight x) (SemaphoreRight x)
 unfolding isSemaphoreRight
@@ -199,11 +200,10 @@ settled t =
     first (λ s. s .queued) (queued t) λ queued.
     first (λ s. s .worked) (each-one λ i l. worked (ends t (queued .shaped)) l) λ worked.
     first (λ s. s .tasks) (each-one λ i l. task-right (taskOf t i)) λ tasks.
-    first (λ s. s .delays) (each-one λ i l. if-so equals equals) λ delays.
     first (λ s. s .objects) (objects-right t) λ objects.
     first (λ s. s .tick) at-most λ tick.
     last (λ s. s .depth) at-most λ depth.
-    record { queued = queued; worked = worked; tasks = tasks; delays = delays; objects = objects; tick = tick; depth = depth }
+    record { queued = queued; worked = worked; tasks = tasks; objects = objects; tick = tick; depth = depth }
 
 runs : (t : Table) → Decides (runsRight t) (RunsRight t)
 unfolding runsRight

@@ -13,7 +13,7 @@ use Rattle.rules.specs.Table.{Table, taskOf, semaphoreOf, mutexOf, queueCount, 
 use Rattle.rules.specs.Semaphore.{semaphores}
 use Rattle.rules.specs.Mutex.{mutexes}
 use Rattle.rules.specs.Sound.{Each, each, TaskInRange, TaskRight, MayWait, WaitRight, isNoTask, objectsIn, marksIn}
-use Rattle.laws.specs.Linked.{may-awaited, awaited-may, may-apart, apart-may}
+use Rattle.laws.specs.keeps.Objects.{may-awaited, awaited-may, may-apart, apart-may}
 use Rattle.rules.specs.Tested.{no-task}
 use Rattle.rules.specs.Decides.{Decides, equals, at-most, fails, first, last, both, each-one}
 use Rattle.sound.specs.Tests.{unless, by-cases, always}
@@ -121,7 +121,7 @@ blank-right : (t : Table) (i : ℕ) → TaskPassed t i noTask
 unfolding objectsIn marksIn
 blank-right t i =
     record {
-      right = record { inRange = omega arith; freeZero = λ e. refl; plainMark = λ e. refl; left = omega arith };
+      right = record { inRange = omega arith; freeZero = λ e. refl; plainMark = λ e. refl; delayMark = λ e. absurd (omega arith); left = omega arith };
       timely = record { plainMark = λ e. refl; delayMark = λ e. absurd (omega arith); notDue = λ e q. omega arith };
       served = record { semaphore = λ e. absurd (omega arith); mutex = λ e. absurd (omega arith) };
     }
@@ -159,7 +159,7 @@ task-right t i l k =
     (λ e. last (λ r. r .right .freeZero e) (no-task k) λ z. subst (TaskPassed t i) (sym z) (blank-right t i))
     (λ n. first (λ r. (record { inRange = r .right .inRange; used = used n (r .right .inRange); left = r .right .left }, r .timely)) (both (fit k) (timely (t .tick) k)) λ (f, m).
     last (λ r. r .served) (served t i l k) λ s.
-    record { right = record { inRange = f .inRange; freeZero = λ e. absurd (n e); plainMark = m .plainMark; left = f .left }; timely = m; served = s })
+    record { right = record { inRange = f .inRange; freeZero = λ e. absurd (n e); plainMark = m .plainMark; delayMark = m .delayMark; left = f .left }; timely = m; served = s })
   where
     used : (k .used ≡ 0 → ⊥) → TaskInRange k → k .used ≡ 1
     used n r = omega (arith, r .used)

@@ -74,7 +74,6 @@ module _ (t : Table) (shaped : Shaped t) (tick : t .tick < ticksRound) where
               queued = record { shaped = shaped; places = p .queued .counts; nothingElse = p .queued .within; ordered = p .queued .ordered };
               worked = p .worked;
               tasks = λ i l. p .tasks i l .right;
-              delays = λ i l. p .tasks i l .timely .delayMark;
               objects = record { semaphores = p .semaphores; mutexes = λ m l. p .mutexes m l .right; waits = λ i l. p .tasks i l .served; holders = λ m l. p .mutexes m l .holder };
               tick = tick;
               depth = p .run .depth;
@@ -87,7 +86,7 @@ module _ (t : Table) (shaped : Shaped t) (tick : t .tick < ticksRound) where
   to-parts s =
       let h = s .settled in
       record {
-        tasks = λ i l. record { right = h .tasks i l; timely = record { plainMark = h .tasks i l .plainMark; delayMark = h .delays i l; notDue = s .notDue i l }; served = h .objects .waits i l };
+        tasks = λ i l. record { right = h .tasks i l; timely = record { plainMark = h .tasks i l .plainMark; delayMark = h .tasks i l .delayMark; notDue = s .notDue i l }; served = h .objects .waits i l };
         semaphores = h .objects .semaphores;
         mutexes = λ m l. record { right = h .objects .mutexes m l; holder = h .objects .holders m l };
         queued = record { counts = h .queued .places; within = h .queued .nothingElse; ordered = h .queued .ordered };

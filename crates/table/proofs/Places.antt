@@ -16,7 +16,7 @@ use Rattle.rules.specs.declared.Task.{Task}
 use Rattle.rules.specs.Table.{Table, taskOf, queueOf, works, placeOf, firstIn, noTask, withTask, withQueue, withRunning, withWork, withLeft}
 use Rattle.rules.specs.Decides.{equals, itself, both}
 use Rattle.rules.specs.Move.{leave, join, stays, put, putWork, rotate, chosen}
-use Rattle.laws.specs.Put.{put-in, put-moves, place-same}
+use Rattle.laws.specs.queues.Put.{put-in, put-moves, place-same}
 use Rattle.table.specs.Parts.{part, tabulate}
 use Rattle.table.specs.Image.{Image, queueAt, taskIn, taskAt, view}
 use Rattle.table.specs.PartLaws.{part-at, tabulate-at, tabulate-length}

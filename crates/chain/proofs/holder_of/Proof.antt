@@ -3,7 +3,7 @@ use Rattle.rules.specs.declared.Mutex.{Mutex}
 use Rattle.table.specs.Image.{view}
 use native.Mathlib.Nat.{pos-of-ne-zero}
 use native.Mathlib.Omega.{arith}
-use Rattle.laws.specs.Graph.{no-holder, written-holder}
+use Rattle.laws.specs.chains.Graph.{no-holder, written-holder}
 use borrow.Author.Needs.{needs}
 use Rattle.chain.proofs.holder_of.Statement.{statement}
 use Rattle.chain.proofs.holder_of.Tie as tie

@@ -2,7 +2,7 @@ use mathlib.Core.Path.{sym, ap, _∙_}
 use Rattle.rules.specs.declared.Task.{Task}
 use Rattle.rules.specs.Move.{holderOf}
 use Rattle.rules.specs.Table.{taskOf}
-use Rattle.laws.specs.Graph.{next-is, waits-one, waits-none}
+use Rattle.laws.specs.chains.Graph.{next-is, waits-one, waits-none}
 use Rattle.table.specs.Image.{view}
 use borrow.Author.Needs.{needs}
 use Rattle.chain.proofs.next_of.Statement.{statement}

@@ -3,7 +3,7 @@ use mathlib.Core.Path.{sym, _∙_}
 use native.Mathlib.Omega.{arith}
 use Rattle.rules.specs.Move.{next, freshIn, putWork}
 use Rattle.table.specs.Image.{view}
-use Rattle.laws.specs.Walk.{walkOn-none, walkOn-past, walkOn-turn}
+use Rattle.laws.specs.chains.Walk.{walkOn-none, walkOn-past, walkOn-turn}
 use Rattle.chain.specs.Given.{given-work}
 use Prim.Native.Nat.{ℕ, _<_}
 use borrow.Fn.Kinds.{In}

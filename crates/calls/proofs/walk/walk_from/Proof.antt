@@ -1,7 +1,7 @@
 use mathlib.Core.Path.{refl, sym}
 use Rattle.rules.specs.Move.{next, freshIn, putWork}
 use Rattle.table.specs.Image.{view}
-use Rattle.laws.specs.Walk.{walkOn-past}
+use Rattle.laws.specs.chains.Walk.{walkOn-past}
 use Rattle.chain.specs.Given.{isBlank, none-given}
 use borrow.Author.Needs.{needs}
 use Rattle.calls.proofs.walk.walk_from.Statement.{statement}

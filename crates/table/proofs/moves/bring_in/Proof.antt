@@ -1,7 +1,7 @@
 use mathlib.Core.Path.{sym}
 use native.Mathlib.Omega.{arith}
 use Rattle.table.specs.Image.{view}
-use Rattle.laws.specs.Put.{put-out}
+use Rattle.laws.specs.queues.Put.{put-out}
 use Rattle.table.proofs.Places.{put-joins}
 use borrow.Author.Needs.{needs}
 use Rattle.table.proofs.moves.bring_in.Statement.{statement}

@@ -1,7 +1,7 @@
 use mathlib.Core.Path.{sym, _∙_}
 use native.Mathlib.Omega.{arith}
 use Rattle.table.specs.Image.{view}
-use Rattle.laws.specs.Put.{put-out, put-stays}
+use Rattle.laws.specs.queues.Put.{put-out, put-stays}
 use borrow.Author.Needs.{needs}
 use Rattle.table.proofs.moves.keep_task.Statement.{statement}
 use Rattle.table.proofs.moves.keep_task.Tie as tie

@@ -4,7 +4,7 @@ use mathlib.Core.Bool.{true, false}
 use Rattle.rules.specs.Table.{taskOf}
 use Rattle.rules.specs.Move.{stays}
 use Rattle.table.specs.Image.{view}
-use Rattle.laws.specs.Put.{put-moves}
+use Rattle.laws.specs.queues.Put.{put-moves}
 use Rattle.table.proofs.Places.{put-same}
 use borrow.Author.Needs.{needs}
 use Rattle.table.proofs.moves.put_in.Statement.{statement}

@@ -1,6 +1,6 @@
 use mathlib.Core.Path.{sym}
 use Rattle.table.specs.Image.{view}
-use Rattle.laws.specs.Put.{put-out}
+use Rattle.laws.specs.queues.Put.{put-out}
 use borrow.Author.Needs.{needs}
 use Rattle.table.proofs.moves.put_task.Statement.{statement}
 use Rattle.table.proofs.moves.put_task.Tie as tie

@@ -1,7 +1,7 @@
 use mathlib.Core.Path.{sym, _∙_}
 use native.Mathlib.Omega.{arith}
 use Rattle.table.specs.Image.{view}
-use Rattle.laws.specs.Graph.{work-same}
+use Rattle.laws.specs.chains.Graph.{work-same}
 use Rattle.table.proofs.Places.{work-moves}
 use borrow.Author.Needs.{needs}
 use Rattle.table.proofs.moves.rework_task.Statement.{statement}

@@ -1,6 +1,6 @@
 use mathlib.Core.Path.{sym}
 use Rattle.table.specs.Image.{view}
-use Rattle.laws.specs.Put.{rotate-out}
+use Rattle.laws.specs.queues.Put.{rotate-out}
 use borrow.Author.Needs.{needs}
 use Rattle.table.proofs.moves.rotate_task.Statement.{statement}
 use Rattle.table.proofs.moves.rotate_task.Tie as tie

@@ -1,0 +1,99 @@
+-- What the standing rules say of one task's record alone, for each record that a call stores.
+use mathlib.Core.Path.{_≡_, refl, ap, ap₂}
+use mathlib.Core.Logic.{_≢_}
+use Prim.Native.Nat.{ℕ, _≤_, _<_}
+use native.Mathlib.Omega.{arith}
+use lib.Dec.{eqb}
+use Rattle.rules.specs.Sizes.{lastPriority, mostNested, mostQuantum, ticksRound, plain, delayed, waitsMutex, objectDeleted}
+use Rattle.rules.specs.Table.{Table, noTask, withBase, withWork, withSuspend, withLeft, withState, withMark, withOutcome}
+use Rattle.rules.specs.Decides.{equals}
+use Rattle.rules.specs.Move.{ready}
+use Rattle.rules.specs.Sound.{objectsIn, marksIn, TaskInRange, TaskRight}
+use Rattle.rules.specs.Task.{created}
+use Rattle.rules.specs.Time.{markIn}
+use Rattle.rules.specs.Object.{limited}
+use Rattle.rules.specs.declared.Task.{Task}
+use Rattle.laws.specs.queues.Put.{whichever, pick}
+
+-- ---- fields in range
+
+-- A task in use has no fields that must be zero.
+in-use : {k : Task} → k .used ≡ 1 → TaskInRange k → (k .state ≡ plain → k .marked ≡ 0) → (k .state ≡ delayed → k .marked ≡ 1) → k .left ≤ k .quantum → TaskRight k
+in-use {k} u r p d l = record { inRange = r; freeZero = λ z. absurd (omega arith); plainMark = p; delayMark = d; left = l }
+
+pub free-right : TaskRight noTask
+unfolding objectsIn marksIn
+free-right = record { inRange = omega arith; freeZero = λ z. refl; plainMark = λ e. refl; delayMark = λ e. absurd (omega arith); left = omega arith }
+
+pub created-right : {base quantum : ℕ} → base ≤ lastPriority → quantum ≤ mostQuantum → TaskRight (created base quantum)
+unfolding objectsIn marksIn
+created-right b q = in-use refl (omega arith) (λ e. refl) (λ e. absurd (omega arith)) (omega arith)
+
+module _ {k : Task} (r : TaskRight k) where
+  -- A working priority no greater than the base.
+  pub work-right : (p : ℕ) → p ≤ k .base → TaskRight (withWork p k)
+  work-right p l =
+      record {
+        inRange = omega arith;
+        freeZero = λ z. let e : k ≡ noTask = r .freeZero z in let n : p ≡ 0 = omega (arith, ap (λ (x : Task). x .base) e) in ap₂ withWork n e;
+        plainMark = r .plainMark;
+        delayMark = r .delayMark;
+        left = r .left;
+      }
+
+  -- No more left than the quantum.
+  pub left-right : (x : ℕ) → x ≤ k .quantum → TaskRight (withLeft x k)
+  left-right x l =
+      record {
+        inRange = omega arith;
+        freeZero = λ z. let e : k ≡ noTask = r .freeZero z in let n : x ≡ 0 = omega (arith, ap (λ (x : Task). x .quantum) e) in ap₂ withLeft n e;
+        plainMark = r .plainMark;
+        delayMark = r .delayMark;
+        left = l;
+      }
+
+  module _ (u : k .used ≡ 1) where
+    pub base-right : (base : ℕ) → base ≤ lastPriority → TaskRight (withBase base k)
+    base-right base l = in-use u (omega arith) (r .plainMark) (r .delayMark) (r .left)
+
+    pub suspend-right : (n : ℕ) → n ≤ mostNested → TaskRight (withSuspend n k)
+    suspend-right n l = in-use u (omega arith) (r .plainMark) (r .delayMark) (r .left)
+
+    pub outcome-right : (outcome : ℕ) → outcome ≤ objectDeleted → TaskRight (withOutcome outcome k)
+    outcome-right outcome l = in-use u (omega arith) (r .plainMark) (r .delayMark) (r .left)
+
+    pub ready-right : (outcome : ℕ) → outcome ≤ objectDeleted → TaskRight (ready outcome k)
+    unfolding objectsIn marksIn
+    ready-right outcome l = in-use u (omega arith) (λ e. refl) (λ e. absurd (omega arith)) (r .left)
+
+    -- A delay, or a wait with its limit.
+    pub marked-right : (state object n : ℕ) (t : Table) → state ≤ waitsMutex → state ≢ plain → object < objectsIn state
+        → TaskRight (withState state object (withMark 1 (markIn n t) k))
+    unfolding marksIn
+    marked-right state object n t l d o = in-use u (omega arith) (λ e. absurd (d e)) (λ e. refl) (r .left)
+
+    unmarked-right : (state object : ℕ) → state ≤ waitsMutex → delayed < state → object < objectsIn state → TaskRight (withState state object (withMark 0 0 k))
+    unfolding marksIn
+    unmarked-right state object l d o = in-use u (omega arith) (λ e. refl) (λ e. absurd (omega arith)) (r .left)
+
+    pub limited-right : (state object limit : ℕ) (t : Table) → state ≤ waitsMutex → delayed < state → object < objectsIn state
+        → TaskRight (withState state object (limited limit t k))
+    limited-right state object limit t l d o =
+        whichever (λ x. TaskRight (withState state object x)) (eqb limit 0) (unmarked-right state object l d o) (marked-right state object limit t l (λ e. omega arith) o)
+
+    pub limited-used : (limit : ℕ) (t : Table) → limited limit t k .used ≡ 1
+    limited-used limit t = whichever (λ (x : Task). x .used ≡ 1) (eqb limit 0) u u
+
+-- ---- due marks
+
+-- No mark of the task equals the counter.
+abbrev pub NotYet : ℕ → Task → Type 0
+NotYet tick k = k .marked ≡ 1 → k .due ≡ tick → ⊥
+
+-- A mark set now is some way ahead.
+pub mark-later : (n : ℕ) (t : Table) → t .tick < ticksRound → 0 < n → n < ticksRound → markIn n t ≢ t .tick
+mark-later n t l z m e = omega arith
+
+pub limited-later : (t : Table) (k : Task) (state object limit : ℕ) → t .tick < ticksRound → limit < ticksRound → NotYet (t .tick) (withState state object (limited limit t k))
+limited-later t k state object limit l m =
+    pick (λ x. NotYet (t .tick) (withState state object x)) equals (λ e. omega arith) (λ (d : limit ≢ 0) q. mark-later limit t l (omega arith) m)
