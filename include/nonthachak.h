@@ -68,8 +68,8 @@ enum ntk_answer {
     NTK_NOT_SOUND = 15       /* the image breaks a standing rule or has the wrong length: nothing may run */
 };
 
-/* The outcome of a task's last wait or delay. */
-enum ntk_wait { NTK_GIVEN = 0, NTK_TIMED_OUT = 1, NTK_ABORTED = 2, NTK_DELETED = 3 };
+/* The outcome of a task's last wait or delay; NTK_NO_SUCH_TASK for a number that is no task's. */
+enum ntk_wait { NTK_GIVEN = 0, NTK_TIMED_OUT = 1, NTK_ABORTED = 2, NTK_DELETED = 3, NTK_NO_SUCH_TASK = 255 };
 
 /* `runs` is the task to run, plus 1; 0 is none. */
 struct ntk_outcome {
@@ -85,9 +85,12 @@ struct ntk_outcome ntk_step(uint8_t kind, uint32_t a, uint32_t b, uint32_t c, ui
  * since. There it gives what ntk_step gives. On an image that breaks a standing rule it gives no sensible table. */
 struct ntk_outcome ntk_serve(uint8_t kind, uint32_t a, uint32_t b, uint32_t c, uint8_t *image, size_t length);
 
-/* What the last wait of a task came to, read from the image. */
+/* What the last wait of a task came to, read from the image, which has NTK_IMAGE_SIZE bytes. Any number is taken: from NTK_TASKS on the
+ * image is not read, and the answer is NTK_NO_SUCH_TASK. A task that is not in use has the outcome 0. */
 static inline enum ntk_wait ntk_wait_of(const uint8_t *image, unsigned task)
 {
+    if (task >= NTK_TASKS)
+        return NTK_NO_SUCH_TASK;
     return (enum ntk_wait)image[192 + 10 * task + 9];
 }
 

@@ -57,6 +57,7 @@ static void two_mutexes(void)
     call("tick", NTK_TICK | NTK_INTERRUPT, 0, 0, 0);
     call("tick", NTK_TICK | NTK_INTERRUPT, 0, 0, 0);
     printf("  the output's delay ended with outcome %u\n", (unsigned)ntk_wait_of(table, OUTPUT));
+    printf("  of a number that is no task's, 32 or 4294967295: %u, %u\n", (unsigned)ntk_wait_of(table, NTK_TASKS), (unsigned)ntk_wait_of(table, 4294967295u));
 }
 
 int main(void)

@@ -1,46 +1,18 @@
-// The services, in place, a module for each family, and `serve` from a call to its service. Each promises what the rules say: the
-// answer and the table, and on a refusal the very bytes as they came.
+// The way from a call to its service. It promises what the rules say: the answer and the table, and on a refusal the very bytes as
+// they came.
 ghost use mathlib.Core.Path.{_≡_};
 ghost use Rattle.rules.specs.Step.{forInterrupts, answerTo, answer, effect};
 ghost use Rattle.table.specs.Image.{Image, view};
-ghost use Rattle.calls.specs.Served.{Served};
-
-pub mod ending;
-pub mod lock;
-pub mod mutex;
-pub mod object;
-pub mod semaphore;
-pub mod task;
-pub mod tick;
-pub mod time;
-pub mod walk;
+ghost use Rattle.service.specs.Served.{Served};
 
 // Whether an interrupt may make this call.
 fn is_for_interrupts(c: rules::Call) -> bool
     ensures { λ r. ⌜ r ≡ forInterrupts c ⌝ }
 {
     match c {
-        rules::Call::TaskCreate(_, _, _) => false,
-        rules::Call::TaskDelete(_) => false,
-        rules::Call::ChangePriority(_, _) => false,
-        rules::Call::Suspend(_) => false,
-        rules::Call::Resume(_) => false,
-        rules::Call::Yield => false,
-        rules::Call::Delay(_) => false,
-        rules::Call::DelayResume(_) => false,
-        rules::Call::Lock => false,
-        rules::Call::Unlock => false,
         rules::Call::Tick => true,
-        rules::Call::SemaphoreCreate(_, _) => false,
-        rules::Call::SemaphoreDelete(_, _) => false,
-        rules::Call::SemaphoreWait(_, _, _) => false,
         rules::Call::SemaphorePost(_) => true,
-        rules::Call::SemaphoreAbort(_) => false,
-        rules::Call::MutexCreate(_) => false,
-        rules::Call::MutexDelete(_, _) => false,
-        rules::Call::MutexWait(_, _, _) => false,
-        rules::Call::MutexPost(_) => false,
-        rules::Call::MutexAbort(_) => false,
+        _ => false,
     }
 }
 
@@ -58,27 +30,22 @@ fn serve_task(s: &mut [u8], c: rules::Call) -> u8
         rules::Call::Yield => time::yield_turn(s),
         rules::Call::Delay(n) => time::delay_by(s, n),
         rules::Call::DelayResume(i) => time::delay_resume(s, i),
-        rules::Call::Lock => lock::lock_on(s),
-        rules::Call::Unlock => lock::unlock_once(s),
+        rules::Call::Lock => time::lock::lock_on(s),
+        rules::Call::Unlock => time::lock::unlock_once(s),
         rules::Call::Tick => {
             tick::tick_once(s);
             0
         }
-        rules::Call::SemaphoreCreate(i, count) => semaphore::create_semaphore(s, i, count),
-        rules::Call::SemaphoreDelete(i, force) => semaphore::delete_semaphore(s, i, force),
-        rules::Call::SemaphoreWait(i, block, limit) => semaphore::wait_semaphore(
-            s,
-            i,
-            block,
-            limit,
-        ),
-        rules::Call::SemaphorePost(i) => semaphore::post_semaphore(s, i),
-        rules::Call::SemaphoreAbort(i) => semaphore::abort_semaphore(s, i),
-        rules::Call::MutexCreate(i) => mutex::create_mutex(s, i),
-        rules::Call::MutexDelete(i, force) => mutex::delete_mutex(s, i, force),
-        rules::Call::MutexWait(i, block, limit) => mutex::wait_mutex(s, i, block, limit),
-        rules::Call::MutexPost(i) => mutex::post_mutex(s, i),
-        rules::Call::MutexAbort(i) => mutex::abort_mutex(s, i),
+        rules::Call::SemaphoreCreate(i, count) => semaphore::create(s, i, count),
+        rules::Call::SemaphoreDelete(i, force) => semaphore::delete(s, i, force),
+        rules::Call::SemaphoreWait(i, block, limit) => semaphore::wait(s, i, block, limit),
+        rules::Call::SemaphorePost(i) => semaphore::post(s, i),
+        rules::Call::SemaphoreAbort(i) => semaphore::abort(s, i),
+        rules::Call::MutexCreate(i) => mutex::create(s, i),
+        rules::Call::MutexDelete(i, force) => mutex::delete(s, i, force),
+        rules::Call::MutexWait(i, block, limit) => mutex::wait(s, i, block, limit),
+        rules::Call::MutexPost(i) => mutex::post(s, i),
+        rules::Call::MutexAbort(i) => mutex::abort(s, i),
     }
 }
 

@@ -1,4 +1,4 @@
--- The states of several tasks taken together, which tell that none of them waits for a mutex. Assumes nothing.
+-- The states of several tasks taken together, which tell that none of them waits for a mutex.
 use mathlib.Core.Path.{_≡_, _∙_}
 use mathlib.Core.List.{List}
 use Prim.Native.Nat.{ℕ, zero, suc, _+_, _≤_, _<_}
@@ -7,10 +7,10 @@ use native.Mathlib.Nat.{add-assoc}
 use native.Mathlib.Omega.{arith}
 use lib.Bits.{bitOr, or-zero-r, or-comm, and-le-r, or-add-and}
 use Rattle.rules.specs.Sizes.{taskCount, waitsMutex}
-use Rattle.rules.specs.Table.{Table, taskOf}
-use Rattle.rules.specs.Move.{holderOf, next, baseOf}
+use Rattle.rules.specs.Table.{Table, taskOf, holderOf}
+use Rattle.rules.specs.Move.{next, baseOf}
 use Rattle.laws.specs.chains.Graph.{next-is, waits-none}
-use Rattle.chain.specs.Carry.{Settled, settled-past}
+use Rattle.chain.specs.Carry.{HadTurns, settled-past}
 
 -- The states of the n tasks from a on, one bit over another.
 unfoldable pub statesFrom : ℕ → ℕ → Table → ℕ
@@ -41,6 +41,6 @@ state-below (suc n) a i t g h = go (ℕ-discrete i a) (λ (m : a + 1 ≤ i). sta
 
 -- Where all together are below the state of a wait for a mutex, none of the tasks has a turn to take.
 pub states-past : (t : Table) {l : List ℕ} (n a : ℕ) → statesFrom n a t < waitsMutex
-    → Settled taskCount (next t) (baseOf t) a l → Settled taskCount (next t) (baseOf t) (a + n) l
+    → HadTurns taskCount (next t) (baseOf t) a l → HadTurns taskCount (next t) (baseOf t) (a + n) l
 states-past t n a b s =
     settled-past n (λ i g h. omega (arith, next-is t i ∙ waits-none (holderOf t) (taskOf t i) (λ e. omega (arith, e, state-below n a i t g h)))) s

@@ -1,13 +1,15 @@
 // The chain of holders: who waits for whom, and the working priorities of all tasks worked out together.
 ghost use mathlib.Core.Path.{_≡_};
 ghost use Prim.Native.Nat.{_+_, _≤_, _<_};
-ghost use Rattle.rules.specs.Table.{taskOf};
-ghost use Rattle.rules.specs.Move.{holderOf, next, baseOf, freshIn};
+ghost use Rattle.rules.specs.Table.{taskOf, holderOf};
+ghost use Rattle.rules.specs.Move.{next, baseOf, freshIn};
 ghost use Rattle.table.specs.Image.{Image, view};
-ghost use Rattle.chain.specs.Carry.{Settled};
-ghost use Rattle.chain.specs.Given.{NoneGiven, Given};
+ghost use Rattle.chain.specs.Carry.{HadTurns};
+ghost use Rattle.chain.specs.Given.{NoneGiven, givenToAll, Given};
 ghost use Rattle.chain.specs.States.{statesFrom};
 use table::cells;
+
+pub mod walk;
 
 // The task that holds mutex m; 32, which is no task, for none.
 pub fn holder_of(s: &[u8], m: usize) -> usize
@@ -44,8 +46,8 @@ fn base_of(s: &[u8], j: usize) -> u8
 // The base priority of task i goes along its chain, to each task whose own is greater and that was given a greater one. Where one has
 // none greater, those behind it have none either, or get one no greater in their turn; so a ring ends too.
 fn carry(s: &[u8], given: &mut [u8], i: usize)
-    requires { ⌜ (i < 32) × Image (now s) × Settled 32 (next (view (now s))) (baseOf (view (now s))) i (now given) ⌝ }
-    ensures { λ _. ⌜ Settled 32 (next (view (now (s .entry)))) (baseOf (view (now (s .entry)))) (i + 1) (now (given .exit)) ⌝ }
+    requires { ⌜ (i < 32) × Image (now s) × HadTurns 32 (next (view (now s))) (baseOf (view (now s))) i (now given) ⌝ }
+    ensures { λ _. ⌜ HadTurns 32 (next (view (now (s .entry)))) (baseOf (view (now (s .entry)))) (i + 1) (now (given .exit)) ⌝ }
 {
     let base = base_of(s, i);
     let mut j = next_of(s, i);
@@ -87,8 +89,8 @@ fn states_of(s: &[u8], a: usize) -> u8
 
 // The eight tasks from `a` on have their turns.
 fn carry_eight(s: &[u8], given: &mut [u8], a: usize)
-    requires { ⌜ (a + 8 ≤ 32) × Image (now s) × Settled 32 (next (view (now s))) (baseOf (view (now s))) a (now given) ⌝ }
-    ensures { λ _. ⌜ Settled 32 (next (view (now (s .entry)))) (baseOf (view (now (s .entry)))) (a + 8) (now (given .exit)) ⌝ }
+    requires { ⌜ (a + 8 ≤ 32) × Image (now s) × HadTurns 32 (next (view (now s))) (baseOf (view (now s))) a (now given) ⌝ }
+    ensures { λ _. ⌜ HadTurns 32 (next (view (now (s .entry)))) (baseOf (view (now (s .entry)))) (a + 8) (now (given .exit)) ⌝ }
 {
     let mut i = a;
     let end = a + 8;
@@ -98,12 +100,12 @@ fn carry_eight(s: &[u8], given: &mut [u8], a: usize)
     }
 }
 
-// What each task is given by those from which a chain of waits leads to it: the smallest base priority of theirs that is of use.
-// The bytes lent are 255, which is of use to none. Eight tasks whose states together make at most 2 have none among them in state 3,
+// What each task is given by those from which a chain of waits leads to it: the smallest base priority of theirs where it is smaller than
+// its own, and else 255, as the bytes lent are. Eight tasks whose states together make at most 2 have none among them in state 3,
 // which waits for a mutex, and are passed over.
 pub fn carry_all(s: &[u8], given: &mut [u8])
     requires { ⌜ Image (now s) × NoneGiven (now given) ⌝ }
-    ensures { λ _. ⌜ Given (view (now (s .entry))) (now (given .exit)) ⌝ }
+    ensures { λ _. ⌜ now (given .exit) ≡ givenToAll (view (now (s .entry))) ⌝ }
 {
     let mut a = 0;
     while a < 32 {

@@ -1,52 +1,12 @@
--- The numbers of a body: three at most, each behind those before it.
-use mathlib.Core.Bool.{Bool, true, false, cond}
-use mathlib.Core.Path.{_≡_, refl}
+-- The numbers of a body, each behind those before it.
+use mathlib.Core.Path.{_≡_, refl, ap}
 use mathlib.Core.List.{List, [], _∷_, _++_}
 use Prim.Native.Nat.{ℕ, zero, suc, _+_, _≤_}
 use native.Mathlib.Omega.{arith}
-use lib.Dec.{eqb}
 use lib.Seq.{take-nil, drop-drop, take-append-le, drop-append-le}
 use lib.ListN.{length, getD, take, drop, length-drop}
-use Rattle.rules.specs.Tape.{little, numbers, sum, widths, bodyLength, callIn}
-use Rattle.rules.specs.Port.{plainKind}
-
--- A list that the sum of its first three exhausts.
-record AtMostThree (l : List ℕ) : Type 0 where
-  pub sums : sum l ≡ getD l 0 0 + getD l 1 0 + getD l 2 0
-
-chosen : (b : Bool) {x y : List ℕ} → AtMostThree x → AtMostThree y → AtMostThree (cond b x y)
-chosen true p q = p
-chosen false p q = q
-
-made : {l : List ℕ} → sum l ≡ getD l 0 0 + getD l 1 0 + getD l 2 0 → AtMostThree l
-made e = record { sums = e }
-
-all-three : (k : ℕ) → AtMostThree (widths k)
-unfolding widths sum
-all-three k =
-    chosen (eqb k 0x01) (made refl)
-    (chosen (eqb k 0x03) (made refl)
-    (chosen (eqb k 0x07) (made refl)
-    (chosen (eqb k 0x10) (made refl)
-    (chosen (eqb k 0x11) (made refl)
-    (chosen (eqb k 0x12) (made refl)
-    (chosen (eqb k 0x21) (made refl)
-    (chosen (eqb k 0x22) (made refl)
-    (chosen (eqb k 0x06) (made refl)
-    (chosen (eqb k 0x09) (made refl)
-    (chosen (eqb k 0x0A) (made refl)
-    (chosen (eqb k 0x0B) (made refl)
-    (made refl))))))))))))
-
--- A body is as long as its three numbers.
-body-sum : (kind : ℕ) → let w = widths (plainKind kind) in bodyLength kind ≡ getD w 0 0 + getD w 1 0 + getD w 2 0
-unfolding bodyLength
-body-sum kind = all-three (plainKind kind) .sums
-
--- So what `widths_of` gives adds up to it.
-pub widths-sum : (kind k a b c : ℕ) → k ≡ plainKind kind
-    → (a ≡ getD (widths k) 0 0) × (b ≡ getD (widths k) 1 0) × (c ≡ getD (widths k) 2 0) × (a ≤ 4) × (b ≤ 4) × (c ≤ 4) → a + b + c ≡ bodyLength kind
-widths-sum kind k a b c e w = omega (arith, body-sum kind, rw e at w)
+use Rattle.rules.specs.Kinds.{widths, plainKind}
+use Rattle.rules.specs.Tape.{little, numbers, sum, bodyLength, callIn}
 
 -- The number i of a body stands behind those before it.
 pub numbers-at : (ws : List ℕ) (i : ℕ) (l : List ℕ) → getD (numbers ws l) i 0 ≡ little (take (getD ws i 0) (drop (sum (take i ws)) l))
@@ -61,6 +21,18 @@ unfolding sum
 sum-next [] i = simp take-nil
 sum-next (w ∷ ws) zero = omega arith
 sum-next (w ∷ ws) (suc i) = let e = sum-next ws i in omega arith
+
+-- It stands within the body.
+pub sum-part : (ws : List ℕ) (i : ℕ) → sum (take i ws) ≤ sum ws
+unfolding sum
+sum-part [] i = simp take-nil (omega arith)
+sum-part (w ∷ ws) zero = omega arith
+sum-part (w ∷ ws) (suc i) = omega (arith, sum-part ws i)
+
+pub numbers-length : (ws l : List ℕ) → length (numbers ws l) ≡ length ws
+unfolding numbers
+numbers-length [] l = refl
+numbers-length (w ∷ ws) l = ap suc (numbers-length ws (drop w l))
 
 numbers-append : (ws l more : List ℕ) → sum ws ≤ length l → numbers ws (l ++ more) ≡ numbers ws l
 unfolding sum numbers

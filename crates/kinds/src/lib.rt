@@ -1,9 +1,8 @@
 // What a kind byte and its numbers say: the list of kinds, for the tape and for the port.
 ghost use mathlib.Core.Path.{_≡_};
-ghost use Prim.Native.Nat.{_+_, _≤_};
-ghost use lib.ListN.{getD};
-ghost use Rattle.rules.specs.Port.{isInterrupt, plainKind, ofKind, reading};
-ghost use Rattle.rules.specs.Tape.{widths, bodyLength};
+ghost use Rattle.rules.specs.Kinds.{widths, isInterrupt, plainKind, reading};
+ghost use Rattle.rules.specs.Tape.{bodyLength};
+ghost use Rattle.kinds.specs.Row.{packed, rowOf};
 
 // Kind plus 80h: made by an interrupt.
 pub fn is_interrupt(kind: u8) -> bool
@@ -21,30 +20,57 @@ pub fn plain_kind(kind: u8) -> u8
     kind
 }
 
-// How many bytes of the tape each number of a body takes; 0 where there is none.
-pub struct Widths {
-    pub a: usize,
-    pub b: usize,
-    pub c: usize,
+// A call's numbers in the order of the tape. No kind has more than six, and those that a kind does not use are not looked at.
+pub type Numbers = [u32; 6];
+
+// A kind: its call, and how many bytes of the tape each of its numbers takes, a hexadecimal digit for each, the first number's the lowest;
+// or that the list lacks it. With the call in front the compiler keeps its numbers in registers.
+enum Row {
+    Has(rules::Call, u32),
+    Lacks,
 }
 
-pub fn widths_of(k: u8) -> Widths
-    ensures { λ r. ⌜ (r .a ≡ getD (widths k) 0 0) × (r .b ≡ getD (widths k) 1 0) × (r .c ≡ getD (widths k) 2 0) × (r .a ≤ 4) × (r .b ≤ 4) × (r .c ≤ 4) ⌝ }
+// The list of kinds.
+fn row_of(k: u8, numbers: Numbers) -> Row
+    ensures { λ r. ⌜ r ≡ rowOf k numbers ⌝ }
 {
+    let a = numbers[0];
+    let b = numbers[1];
+    let c = numbers[2];
     match k {
-        0x01 => Widths { a: 1, b: 1, c: 2 },
-        0x03 => Widths { a: 1, b: 1, c: 0 },
-        0x07 => Widths { a: 4, b: 0, c: 0 },
-        0x10 => Widths { a: 1, b: 4, c: 0 },
-        0x11 => Widths { a: 1, b: 1, c: 0 },
-        0x12 => Widths { a: 1, b: 1, c: 4 },
-        0x21 => Widths { a: 1, b: 1, c: 0 },
-        0x22 => Widths { a: 1, b: 1, c: 4 },
-        0x06 => Widths { a: 0, b: 0, c: 0 },
-        0x09 => Widths { a: 0, b: 0, c: 0 },
-        0x0A => Widths { a: 0, b: 0, c: 0 },
-        0x0B => Widths { a: 0, b: 0, c: 0 },
-        _ => Widths { a: 1, b: 0, c: 0 },
+        0x01 => Row::Has(rules::Call::TaskCreate(a, b, c), 0x211),
+        0x02 => Row::Has(rules::Call::TaskDelete(a), 0x1),
+        0x03 => Row::Has(rules::Call::ChangePriority(a, b), 0x11),
+        0x04 => Row::Has(rules::Call::Suspend(a), 0x1),
+        0x05 => Row::Has(rules::Call::Resume(a), 0x1),
+        0x06 => Row::Has(rules::Call::Yield, 0),
+        0x07 => Row::Has(rules::Call::Delay(a), 0x4),
+        0x08 => Row::Has(rules::Call::DelayResume(a), 0x1),
+        0x09 => Row::Has(rules::Call::Lock, 0),
+        0x0A => Row::Has(rules::Call::Unlock, 0),
+        0x0B => Row::Has(rules::Call::Tick, 0),
+        0x10 => Row::Has(rules::Call::SemaphoreCreate(a, b), 0x41),
+        0x11 => Row::Has(rules::Call::SemaphoreDelete(a, b), 0x11),
+        0x12 => Row::Has(rules::Call::SemaphoreWait(a, b, c), 0x411),
+        0x13 => Row::Has(rules::Call::SemaphorePost(a), 0x1),
+        0x14 => Row::Has(rules::Call::SemaphoreAbort(a), 0x1),
+        0x20 => Row::Has(rules::Call::MutexCreate(a), 0x1),
+        0x21 => Row::Has(rules::Call::MutexDelete(a, b), 0x11),
+        0x22 => Row::Has(rules::Call::MutexWait(a, b, c), 0x411),
+        0x23 => Row::Has(rules::Call::MutexPost(a), 0x1),
+        0x24 => Row::Has(rules::Call::MutexAbort(a), 0x1),
+        _ => Row::Lacks,
+    }
+}
+
+// The widths of a kind's numbers, a digit for each.
+pub fn widths_of(k: u8) -> u32
+    ensures { λ r. ⌜ r ≡ packed (widths k) ⌝ }
+{
+    let row = row_of(k, [0; 6]);
+    match row {
+        Row::Has(_, w) => w,
+        Row::Lacks => 0,
     }
 }
 
@@ -52,42 +78,22 @@ pub fn widths_of(k: u8) -> Widths
 pub fn body_length(kind: u8) -> usize
     ensures { λ r. ⌜ r ≡ bodyLength kind ⌝ }
 {
-    let w = widths_of(plain_kind(kind));
-    w.a + w.b + w.c
+    let w = widths_of(plain_kind(kind)) as usize;
+    let second = w / 16;
+    let third = second / 16;
+    let fourth = third / 16;
+    let fifth = fourth / 16;
+    let sixth = fifth / 16;
+    w % 16 + second % 16 + third % 16 + fourth % 16 + fifth % 16 + sixth % 16
 }
 
-// The call of the kind k with the numbers a, b, c, or that the list lacks k.
-fn of_kind(k: u8, a: u32, b: u32, c: u32, interrupt: bool) -> rules::Reading
-    ensures { λ r. ⌜ r ≡ ofKind k a b c interrupt ⌝ }
+pub fn reading_of(kind: u8, numbers: Numbers) -> rules::Reading
+    ensures { λ r. ⌜ r ≡ reading kind numbers ⌝ }
 {
-    match k {
-        0x01 => rules::Reading::Says(rules::Call::TaskCreate(a, b, c), interrupt),
-        0x02 => rules::Reading::Says(rules::Call::TaskDelete(a), interrupt),
-        0x03 => rules::Reading::Says(rules::Call::ChangePriority(a, b), interrupt),
-        0x04 => rules::Reading::Says(rules::Call::Suspend(a), interrupt),
-        0x05 => rules::Reading::Says(rules::Call::Resume(a), interrupt),
-        0x06 => rules::Reading::Says(rules::Call::Yield, interrupt),
-        0x07 => rules::Reading::Says(rules::Call::Delay(a), interrupt),
-        0x08 => rules::Reading::Says(rules::Call::DelayResume(a), interrupt),
-        0x09 => rules::Reading::Says(rules::Call::Lock, interrupt),
-        0x0A => rules::Reading::Says(rules::Call::Unlock, interrupt),
-        0x0B => rules::Reading::Says(rules::Call::Tick, interrupt),
-        0x10 => rules::Reading::Says(rules::Call::SemaphoreCreate(a, b), interrupt),
-        0x11 => rules::Reading::Says(rules::Call::SemaphoreDelete(a, b), interrupt),
-        0x12 => rules::Reading::Says(rules::Call::SemaphoreWait(a, b, c), interrupt),
-        0x13 => rules::Reading::Says(rules::Call::SemaphorePost(a), interrupt),
-        0x14 => rules::Reading::Says(rules::Call::SemaphoreAbort(a), interrupt),
-        0x20 => rules::Reading::Says(rules::Call::MutexCreate(a), interrupt),
-        0x21 => rules::Reading::Says(rules::Call::MutexDelete(a, b), interrupt),
-        0x22 => rules::Reading::Says(rules::Call::MutexWait(a, b, c), interrupt),
-        0x23 => rules::Reading::Says(rules::Call::MutexPost(a), interrupt),
-        0x24 => rules::Reading::Says(rules::Call::MutexAbort(a), interrupt),
-        _ => rules::Reading::Unknown(interrupt),
+    let interrupt = is_interrupt(kind);
+    let row = row_of(plain_kind(kind), numbers);
+    match row {
+        Row::Has(c, _) => rules::Reading::Says(c, interrupt),
+        Row::Lacks => rules::Reading::Unknown(interrupt),
     }
-}
-
-pub fn reading_of(kind: u8, a: u32, b: u32, c: u32) -> rules::Reading
-    ensures { λ r. ⌜ r ≡ reading kind a b c ⌝ }
-{
-    of_kind(plain_kind(kind), a, b, c, is_interrupt(kind))
 }

@@ -11,3 +11,4 @@ pub mod Release
 pub mod Calls
 pub mod Sounds
 pub mod Always
+pub mod Sentences

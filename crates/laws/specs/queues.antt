@@ -1,4 +1,5 @@
 -- What a move changes and leaves, where tasks stand, and that each move keeps the queues.
+pub mod Rows
 pub mod Put
 pub mod Fields
 pub mod Stands

@@ -11,7 +11,7 @@ use Rattle.rules.specs.Step.{answer, effect, changes, serve}
 use Rattle.rules.specs.Tape.{line}
 use Rattle.rules.specs.declared.Call.{Call}
 use Rattle.table.specs.Image.{view}
-use Rattle.calls.specs.Served.{Served}
+use Rattle.service.specs.Served.{Served}
 use Rattle.tape.specs.Line.{Wrote, lineIn, line-in, line-of, pasted-nothing}
 use Rattle.tape.specs.Next.{nextIn}
 use Rattle.tape.specs.declared.Next.{Next}

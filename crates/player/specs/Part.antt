@@ -1,5 +1,5 @@
 -- One turn of playing a tape, and a part of a tape played.
-use mathlib.Core.Path.{_≡_, ap}
+use mathlib.Core.Path.{_≡_, sym, ap, _∙_}
 use mathlib.Core.Bool.{Bool, cond}
 use mathlib.Core.List.{List, []}
 use Prim.Native.Nat.{ℕ, _+_, _-_, _≤_}
@@ -8,8 +8,9 @@ use lib.Dec.{ltb}
 use lib.ListN.{length, length-append}
 use Rattle.rules.specs.Table.{Table}
 use Rattle.rules.specs.Step.{serve}
-use Rattle.rules.specs.Tape.{line}
-use Rattle.table.specs.Image.{view}
+use Rattle.rules.specs.Tape.{Bytes, line}
+use Rattle.table.specs.Image.{Image, view}
+use Rattle.table.specs.Lossless.{lossless}
 use Rattle.tape.specs.Line.{pasted}
 use Rattle.tape.specs.Next.{nextIn}
 use Rattle.tape.specs.Play.{Played, plays}
@@ -60,3 +61,10 @@ pub record Parted (s l o : List ℕ) (read written : ℕ) (ended : Bool) (s′ o
 pub written-within : {s l o : List ℕ} {read written : ℕ} {ended : Bool} {s′ o′ : List ℕ} → Parted s l o read written ended s′ o′ → written ≤ length o′
 unfolding pasted
 written-within p = omega (arith, p .writes, simp length-append at (ap length (p .buffer)))
+
+-- No two outcomes meet `Parted` for one input. What is left of the image that is lent is an image of bytes, as the types say.
+module _ {s l o : List ℕ} {read written : ℕ} {ended : Bool} {s′ o′ : List ℕ} {read₂ written₂ : ℕ} {ended₂ : Bool} {s₂ o₂ : List ℕ} where
+  pub determined : Image s′ → Bytes s′ → Image s₂ → Bytes s₂ → Parted s l o read written ended s′ o′ → Parted s l o read₂ written₂ ended₂ s₂ o₂
+      → (read ≡ read₂) × (written ≡ written₂) × (ended ≡ ended₂) × (s′ ≡ s₂) × (o′ ≡ o₂)
+  determined long bytes long₂ bytes₂ p q =
+      (p .reads ∙ sym (q .reads), p .writes ∙ sym (q .writes), p .ends ∙ sym (q .ends), lossless s′ s₂ long long₂ bytes bytes₂ (p .table ∙ sym (q .table)), p .buffer ∙ sym (q .buffer))

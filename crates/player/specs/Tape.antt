@@ -1,4 +1,4 @@
--- What is played is the tape of the rules. Its calls test the table and the player's do not. Assumes nothing.
+-- What is played is the tape of the rules. Its calls test the table and the player's do not.
 use mathlib.Core.Path.{_≡_, refl, sym, _∙_}
 use mathlib.Core.List.{List, [], _++_, flatten}
 use Prim.Native.Nat.{ℕ, _*_, _≤_}

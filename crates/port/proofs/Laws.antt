@@ -1,62 +1,19 @@
--- Which outcome each way through the port has.
+-- What each way through the port gives.
 use mathlib.Core.Path.{_≡_, refl, sym, ap, subst, _∙_}
 use mathlib.Core.Bool.{Bool, true, false, cond}
-use mathlib.Core.List.{List}
+use mathlib.Core.List.{List, [], _∷_}
 use Prim.Native.Nat.{ℕ}
-use lib.ListN.{length}
-use borrow.Author.Tests.{eq-eqb, ne-eqb}
 use Rattle.rules.specs.Sizes.{beyondRange, byInterrupt, notSound}
 use Rattle.rules.specs.Table.{Table}
-use Rattle.rules.specs.Sound.{isSound}
 use Rattle.rules.specs.Step.{Outcome, answer, effect, serve, unsound, changes}
-use Rattle.rules.specs.Port.{reading, portStep}
 use Rattle.rules.specs.declared.Call.{Call}
 use Rattle.rules.specs.declared.Reading.{Reading}
 use Rattle.rules.specs.declared.Reading.the-variants.{Unknown}
-use Rattle.table.specs.Image.{Image, imageSize, view}
+use Rattle.table.specs.Image.{Image, view}
 use Rattle.rules.specs.Tape.{Bytes}
 use Rattle.table.specs.Written.{imageOf, view-image}
-use Rattle.calls.specs.Served.{Served}
-use Rattle.port.specs.Step.{sized, plainly, outcomeOf, serveOf, tested, bytesAfter, Gives}
-
--- ---- the length
-
-module _ (rule : Table → Outcome) (l : List ℕ) where
-  pub sized-right : Image l → sized rule l ≡ rule (view l)
-  unfolding sized
-  sized-right h = ap (λ (b : Bool). cond b (rule (view l)) (unsound (view l))) (eq-eqb (length l) imageSize h)
-
-  pub sized-wrong : (Image l → ⊥) → sized rule l ≡ unsound (view l)
-  unfolding sized
-  sized-wrong h = ap (λ (b : Bool). cond b (rule (view l)) (unsound (view l))) (ne-eqb (length l) imageSize h)
-
--- ---- the test of the table
-
-module _ (kind a b c : ℕ) (l : List ℕ) where
-  pub step-wrong : (Image l → ⊥) → outcomeOf kind a b c l ≡ unsound (view l)
-  unfolding outcomeOf
-  step-wrong = sized-wrong (portStep kind a b c) l
-
-  pub serve-wrong : (Image l → ⊥) → serveOf kind a b c l ≡ unsound (view l)
-  unfolding serveOf
-  serve-wrong = sized-wrong (plainly (reading kind a b c)) l
-
-  pub serve-right : Image l → serveOf kind a b c l ≡ plainly (reading kind a b c) (view l)
-  unfolding serveOf
-  serve-right = sized-right (plainly (reading kind a b c)) l
-
-  step-tested : (x : Bool) → isSound (view l) ≡ x → Image l → outcomeOf kind a b c l ≡ cond x (plainly (reading kind a b c) (view l)) (unsound (view l))
-  unfolding outcomeOf portStep
-  step-tested x e h =
-      sized-right (portStep kind a b c) l h
-      ∙ tested (reading kind a b c) (view l)
-      ∙ ap (λ (y : Bool). cond y (plainly (reading kind a b c) (view l)) (unsound (view l))) e
-
-  pub step-unsound : Image l → isSound (view l) ≡ false → outcomeOf kind a b c l ≡ unsound (view l)
-  step-unsound h e = step-tested false e h
-
-  pub step-sound : Image l → isSound (view l) ≡ true → outcomeOf kind a b c l ≡ plainly (reading kind a b c) (view l)
-  step-sound h e = step-tested true e h
+use Rattle.service.specs.Served.{Served}
+use Rattle.port.specs.Step.{plainly, bytesAfter, Gives}
 
 -- ---- what is given
 

@@ -1,15 +1,15 @@
--- What the port answers, and the bytes that it leaves, for any bytes of any length. Assumes nothing.
-use mathlib.Core.Path.{_≡_, refl, sym, ap, _∙_}
-use mathlib.Core.Bool.{Bool, true, cond}
-use mathlib.Core.List.{List}
+-- What the port answers, and the bytes that it leaves, for any bytes of any length.
+use mathlib.Core.Path.{_≡_, sym, _∙_}
+use mathlib.Core.Bool.{cond}
+use mathlib.Core.List.{List, [], _∷_}
 use Prim.Native.Nat.{ℕ}
 use lib.Dec.{eqb}
 use lib.ListN.{length}
 use Rattle.rules.specs.Sizes.{beyondRange, byInterrupt}
 use Rattle.rules.specs.Table.{Table}
-use Rattle.rules.specs.Sound.{isSound}
-use Rattle.rules.specs.Step.{Outcome, serve, step, unsound, changes}
-use Rattle.rules.specs.Port.{reading, unknown, says, portStep}
+use Rattle.rules.specs.Step.{Outcome, serve, unsound, changes}
+use Rattle.rules.specs.Kinds.{reading}
+use Rattle.rules.specs.Port.{portStep}
 use Rattle.rules.specs.declared.Reading.{Reading}
 use Rattle.rules.specs.declared.Reading.the-variants.{Says, Unknown}
 use Rattle.table.specs.Image.{imageSize, view}
@@ -29,21 +29,7 @@ plainly (Says c interrupt) t = serve c interrupt t
 plainly (Unknown interrupt) t = record { answer = cond interrupt byInterrupt beyondRange; table = t; runs = t .running }
 
 unfoldable pub serveOf : ℕ → (a b c : ℕ) → List ℕ → Outcome
-serveOf kind a b c l = sized (plainly (reading kind a b c)) l
-
--- The rules test the table, and then do as `plainly` does.
-pub tested : (r : Reading) (t : Table) → says r t ≡ cond (isSound t) (plainly r t) (unsound t)
-unfolding says plainly unknown step
-tested (Says c interrupt) t = refl
-tested (Unknown interrupt) t = refl
-
--- On a sound table the two are the same.
-pub same-where-sound : (kind a b c : ℕ) (l : List ℕ) → isSound (view l) ≡ true → serveOf kind a b c l ≡ outcomeOf kind a b c l
-unfolding serveOf outcomeOf portStep sized
-same-where-sound kind a b c l e =
-    let o = plainly (reading kind a b c) (view l) in
-    ap (λ (z : Outcome). cond (eqb (length l) imageSize) z (unsound (view l)))
-    (sym (tested (reading kind a b c) (view l) ∙ ap (λ (x : Bool). cond x o (unsound (view l))) e))
+serveOf kind a b c l = sized (plainly (reading kind (a ∷ b ∷ c ∷ []))) l
 
 -- ---- the bytes at exit
 

@@ -1,9 +1,10 @@
 // The steps that the C port calls: a kind, three numbers and the table's byte image. Every input is taken.
 ghost use mathlib.Core.Path.{_≡_};
 ghost use mathlib.Core.Bool.{cond};
+ghost use mathlib.Core.List.{[], _∷_};
 ghost use Rattle.rules.specs.Sizes.{byInterrupt, beyondRange, notSound};
 ghost use Rattle.rules.specs.Step.{serve};
-ghost use Rattle.rules.specs.Port.{reading};
+ghost use Rattle.rules.specs.Kinds.{reading};
 ghost use Rattle.table.specs.Image.{Image, view};
 ghost use Rattle.port.specs.Step.{plainly, Gives, Stepped, ServedPlainly};
 
@@ -52,12 +53,22 @@ fn refuse_kind(interrupt: bool, image: &[u8]) -> NtkOutcome
     outcome(1, v)
 }
 
-// A call on an image whose table is taken to be sound.
-fn serve_plainly(kind: u8, a: u32, b: u32, c: u32, image: &mut [u8]) -> NtkOutcome
+// A call with up to six numbers, on an image whose table is taken to be sound. The numbers are not one array, which the compiler would
+// pass through memory.
+fn serve_plainly(
+    kind: u8,
+    a: u32,
+    b: u32,
+    c: u32,
+    d: u32,
+    e: u32,
+    f: u32,
+    image: &mut [u8],
+) -> NtkOutcome
     requires { ⌜ Image (now image) ⌝ }
-    ensures { λ r. ⌜ Gives (plainly (reading kind a b c) (view (now (image .entry)))) (now (image .entry)) (r .answer) (r .runs) (now (image .exit)) ⌝ }
+    ensures { λ r. ⌜ Gives (plainly (reading kind (a ∷ b ∷ c ∷ d ∷ e ∷ f ∷ [])) (view (now (image .entry)))) (now (image .entry)) (r .answer) (r .runs) (now (image .exit)) ⌝ }
 {
-    let reading = kinds::reading_of(kind, a, b, c);
+    let reading = kinds::reading_of(kind, [a, b, c, d, e, f]);
     match reading {
         rules::Reading::Says(call, interrupt) => serve_call(call, interrupt, image),
         rules::Reading::Unknown(interrupt) => refuse_kind(interrupt, image),
@@ -75,7 +86,7 @@ pub extern "C" fn ntk_step(kind: u8, a: u32, b: u32, c: u32, image: &mut [u8]) -
     if !sound::is_sound(image) {
         return not_sound();
     }
-    serve_plainly(kind, a, b, c, image)
+    serve_plainly(kind, a, b, c, 0, 0, 0, image)
 }
 
 // The same without the test of the table: for an image that this library alone has changed since it was zeroed.
@@ -86,5 +97,5 @@ pub extern "C" fn ntk_serve(kind: u8, a: u32, b: u32, c: u32, image: &mut [u8]) 
     if image.len() != table::cells::IMAGE_SIZE {
         return not_sound();
     }
-    serve_plainly(kind, a, b, c, image)
+    serve_plainly(kind, a, b, c, 0, 0, 0, image)
 }

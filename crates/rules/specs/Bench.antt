@@ -6,12 +6,13 @@ use Prim.Native.Nat.{ℕ}
 use lib.ListN.{replicate}
 use Rattle.queue.specs.Slots.{firstAt, later, push, pull, opened, closed}
 use Rattle.queue.specs.Order.{count, mayPrecede, fits, isOrdered}
-use Rattle.rules.specs.Sound.{each, isShaped, objectsIn, marksIn, isTaskInRange, isNoTask, isNoSemaphore, isNoMutex, isTaskRight, isSemaphoreRight, isMutexRight, mayWait, isWaitRight, isObjectsRight, isQueued, isWorked, isSettled, runsRight, isSound}
+use Rattle.rules.specs.Sound.{each, isShaped, marksIn, isTaskInRange, isNoTask, isNoSemaphore, isNoMutex, isSoundTask, isSoundSemaphore, isSoundMutex, mayWait, isSoundWait, eachOf, isSoundObjects, isSoundQueues, isWorkedOut, isSoundWithin, isSoundRuns, isSound}
+use Rattle.rules.specs.Family.{ofState, placeOf}
 use Rattle.rules.specs.Sizes.{mostCount, delayed, plain, timedOut}
 use Rattle.rules.specs.Chain.{leads, smallest, fresh}
 use Rattle.rules.specs.Walk.{walkOn}
-use Rattle.rules.specs.Table.{Table, freshTable, taskOf, isAble, placeOf, works, semaphoreQueue, firstIn, written, withTick}
-use Rattle.rules.specs.Move.{leave, join, stays, put, rotate, holderOf, next, freshIn, ended, endedAll, chosen, peerBelow}
+use Rattle.rules.specs.Table.{Table, freshTable, taskOf, isAble, works, semaphoreQueue, firstIn, written, withTick, holderOf}
+use Rattle.rules.specs.Move.{leave, join, stays, put, rotate, next, freshIn, ended, endedAll, chosen, peerBelow}
 use Rattle.rules.specs.Task.{createAnswer, create, suspendAnswer, suspend, resumeAnswer, resume}
 use Rattle.rules.specs.Time.{delayAnswer, delay}
 use Rattle.rules.specs.Lock.{lockAnswer, lock, unlockAnswer, unlock}
@@ -20,8 +21,8 @@ use Rattle.rules.specs.Semaphore.{semaphoreCreate, semaphoreWaitAnswer, 
 use Rattle.rules.specs.Mutex.{mutexCreate, mutexWaitAnswer, mutexWait, mutexPostAnswer, handed, released, mutexPost}
 use Rattle.rules.specs.Tick.{turned, dueEnded, dueBelow, ticked}
 use Rattle.rules.specs.Step.{answerTo, changeBy, forInterrupts, answer, effect, serve, step}
-use Rattle.rules.specs.Port.{ofKind, reading}
-use Rattle.rules.specs.Tape.{little, widths, sum, numbers, bodyLength, callIn, decimal, runner, line, printedOf, printed, tape}
+use Rattle.rules.specs.Kinds.{toldIn, widths, ofKind, reading, spelled}
+use Rattle.rules.specs.Tape.{little, sum, numbers, bodyLength, callIn, decimal, runner, line, printedOf, printed, tape}
 use Rattle.rules.specs.declared.Call.{Call}
 use Rattle.rules.specs.declared.Call.the-variants.{TaskCreate, Suspend, Resume, Delay, Lock, Unlock, Tick, SemaphoreCreate, SemaphoreWait, SemaphorePost, MutexCreate, MutexWait, MutexPost}
 
@@ -141,7 +142,7 @@ pub record Bench : Type 0 where
   pub is-given : (taskOf (after suspended-waiter (SemaphorePost 0 ∷ [])) 1 .state ≡ plain) × (runs suspended-waiter (SemaphorePost 0 ∷ Resume 1 ∷ []) ≡ written 2 ∷ written 1 ∷ [])
 
 pub bench : Bench
-unfolding firstAt later push pull opened closed leads smallest fresh walkOn freshTable isAble placeOf works leave join stays put rotate holderOf next freshIn ended endedAll chosen peerBelow createAnswer create suspendAnswer suspend resumeAnswer resume delayAnswer delay lockAnswer lock unlockAnswer unlock objectCreateAnswer blocked waits taken semaphoreCreate semaphoreWaitAnswer semaphoreWait semaphorePostAnswer semaphorePost mutexCreate mutexWaitAnswer mutexWait mutexPostAnswer handed released mutexPost turned dueEnded dueBelow ticked answerTo changeBy forInterrupts answer effect serve ofKind reading little widths sum numbers bodyLength callIn decimal runner line printedOf printed tape step count mayPrecede fits isOrdered each isShaped objectsIn marksIn isTaskInRange isNoTask isNoSemaphore isNoMutex isTaskRight isSemaphoreRight isMutexRight mayWait isWaitRight isObjectsRight isQueued isWorked isSettled runsRight isSound after answers runs
+unfolding firstAt later push pull opened closed leads smallest fresh walkOn freshTable isAble placeOf works leave join stays put rotate holderOf next freshIn ended endedAll chosen peerBelow createAnswer create suspendAnswer suspend resumeAnswer resume delayAnswer delay lockAnswer lock unlockAnswer unlock objectCreateAnswer blocked waits taken semaphoreCreate semaphoreWaitAnswer semaphoreWait semaphorePostAnswer semaphorePost mutexCreate mutexWaitAnswer mutexWait mutexPostAnswer handed released mutexPost turned dueEnded dueBelow ticked answerTo changeBy forInterrupts answer effect serve toldIn widths ofKind reading spelled little sum numbers bodyLength callIn decimal runner line printedOf printed tape step count mayPrecede fits isOrdered each isShaped marksIn isTaskInRange isNoTask isNoSemaphore isNoMutex isSoundTask isSoundSemaphore isSoundMutex mayWait ofState eachOf isSoundWait isSoundObjects isSoundQueues isWorkedOut isSoundWithin isSoundRuns isSound after answers runs
 bench =
     record {
       p1 = refl;

@@ -2,12 +2,14 @@
 use mathlib.Core.Path.{_≡_, refl, sym, subst}
 use mathlib.Core.Logic.{_⊎_, inl, inr, ⊎-elim}
 use mathlib.Core.Bool.{Bool, true, false, cond, not, _&&_, _||_, false≢true}
+use mathlib.Core.List.{List, [], _∷_}
 use Prim.Native.Nat.{ℕ, zero, suc, _≤_, _<_}
 use native.Mathlib.Nat.{not-suc-le-zero, eq-or-lt-of-le, le-of-suc-le-suc}
 use native.Mathlib.Omega.{arith}
 use lib.Dec.{eqb, leb}
 use borrow.Author.Tests.{eqb-true, eq-eqb, leb-true, le-leb}
-use Rattle.rules.specs.Sound.{Each, each, implies}
+use Rattle.rules.specs.Sound.{Each, each, eachOf, implies}
+use Rattle.rules.specs.Family.{Family, Among, this, other}
 
 pub record Decides (b : Bool) (P : Type 0) : Type 0 where
   pub holds : b ≡ true → P
@@ -84,3 +86,21 @@ each-one {n = suc n} {p} {P} d =
     (first (λ h. h n (omega arith)) (d n (omega arith)) λ x.
     last (λ h i l. h i (omega arith)) (each-one {n = n} {p = p} {P = P} (λ i l. d i (omega arith))) λ h i l.
     ⊎-elim (λ e. subst P (sym e) x) (h i) (eq-or-lt-of-le (le-of-suc-le-suc l)))
+
+-- ---- each family of a list
+
+pub each-of : {fs : List Family} {p : Family → Bool} {P : Family → Type 0} → ((f : Family) → Decides (p f) (P f)) → Decides (eachOf fs p) ((f : Family) → Among f fs → P f)
+unfolding eachOf
+each-of {fs = []} d = record { holds = λ e f a. absurd (nothing a); passes = λ h. refl }
+  where
+    nothing : {f : Family} → Among f [] → ⊥
+    nothing = elim [ ]
+each-of {fs = g ∷ fs} {p} {P} d =
+    rw cond-and
+    (first (λ h. h g this) (d g) λ x.
+    last (λ h f a. h f (other a)) (each-of {fs = fs} {p = p} {P = P} d) λ h.
+    one x h)
+  where
+    one : P g → ((f : Family) → Among f fs → P f) → (f : Family) → Among f (g ∷ fs) → P f
+    one x h f this = x
+    one x h f (other a) = h f a

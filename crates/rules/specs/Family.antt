@@ -1,11 +1,17 @@
--- A kind of object that tasks wait for, as the calls that every kind has see it. `Object` says these calls once, over a family; a kind
--- of object says what is its own.
-use mathlib.Core.Bool.{Bool}
+-- The kinds of objects that tasks wait for. Each is a family: what the calls that every kind has must know of it; `Object` says these
+-- calls once, over a family. In which queue a waiter stands and which numbers a state may name is read off the list of families, so
+-- that a kind of object is a row of it.
+use mathlib.Core.Bool.{Bool, cond}
+use mathlib.Core.List.{List, [], _∷_}
 use Prim.Native.Nat.{ℕ, _+_}
-use Rattle.rules.specs.Table.{Table}
+use lib.Dec.{eqb, ltb}
+use lib.ListN.{length}
+use Rattle.rules.specs.Sizes.{taskCount, semaphoreCount, mutexCount, delayed, waitsSemaphore, waitsMutex}
+use Rattle.rules.specs.declared.Task.{Task}
+use Rattle.rules.specs.Table.{Table, semaphoreOf, mutexOf, holderOf, queueCount, ableQueue, semaphoreQueue, mutexQueue, isAble, noSemaphore, noMutex, withSemaphore, withMutex}
 
 pub record Family : Type 0 where
-  -- the state of a task that waits for one of them, how many there are, and the queue of number 0, before those of the others
+  -- the state of a task that waits for one of them, how many other are, and the queue of number 0, before those of the others
   pub state : ℕ
   pub count : ℕ
   pub first : ℕ
@@ -20,3 +26,55 @@ pub record Family : Type 0 where
 -- The queue of number o.
 abbrev pub waitersOf : Family → ℕ → ℕ
 waitersOf f o = f .first + o
+
+-- "A semaphore with count above 0 is taken"; it has no holder.
+abbrev pub semaphores : Family
+semaphores =
+    record {
+      state = waitsSemaphore;
+      count = semaphoreCount;
+      first = semaphoreQueue 0;
+      used = λ t s. semaphoreOf t s .used;
+      gone = λ s t. withSemaphore s noSemaphore t;
+      offers = λ t s. ltb 0 (semaphoreOf t s .count);
+      holder = λ t s. taskCount;
+    }
+
+-- "a free mutex is taken"
+abbrev pub mutexes : Family
+mutexes =
+    record {
+      state = waitsMutex;
+      count = mutexCount;
+      first = mutexQueue 0;
+      used = λ t m. mutexOf t m .used;
+      gone = λ m t. withMutex m noMutex t;
+      offers = λ t m. eqb (mutexOf t m .holder) 0;
+      holder = holderOf;
+    }
+
+-- All of them, in the order of their states and of their queues.
+abbrev pub families : List Family
+families = semaphores ∷ mutexes ∷ []
+
+-- The states are those of no wait and one for each family.
+abbrev pub lastState : ℕ
+lastState = delayed + length families
+
+-- f is one of the list.
+pub data Among : Family → List Family → Type 0 where
+  this : {f : Family} {fs : List Family} → Among f (f ∷ fs)
+  other : {f g : Family} {fs : List Family} → Among f fs → Among f (g ∷ fs)
+
+-- What the family of a state says; `none` where the state is no family's.
+unfoldable pub ofState : List Family → (state : ℕ) → (Family → ℕ) → (none : ℕ) → ℕ
+ofState [] state part none = none
+ofState (f ∷ fs) state part none = let further = ofState fs state part none in cond (eqb state (f .state)) (part f) further
+
+-- How many numbers the object of a task may have: those of the kind it waits for, and none but 0 where it waits for nothing.
+abbrev pub objectsIn : ℕ → ℕ
+objectsIn state = ofState families state (λ f. f .count) 1
+
+-- The queue where a task stands: the able queue, or that of the object it waits for; `queueCount` where it stands in none.
+unfoldable pub placeOf : Task → ℕ
+placeOf k = cond (isAble k) ableQueue (ofState families (k .state) (λ f. waitersOf f (k .object)) queueCount)

@@ -1,5 +1,6 @@
 pub mod Sizes
 pub mod Table
+pub mod Family
 pub mod Chain
 pub mod Afresh
 pub mod Walk
@@ -10,11 +11,12 @@ pub mod Tested
 pub mod Task
 pub mod Time
 pub mod Lock
-pub mod Family
 pub mod Object
 pub mod Semaphore
 pub mod Mutex
 pub mod Tick
+pub mod Kinds
+pub mod KindLaws
 pub mod Step
 pub mod Port
 pub mod Tape

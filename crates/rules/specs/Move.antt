@@ -7,7 +7,8 @@ use Rattle.rules.specs.Sizes.{taskCount, waitsMutex, delayed, plain}
 use Rattle.rules.specs.Chain.{fresh}
 use Rattle.rules.specs.Walk.{walkOn}
 use Rattle.rules.specs.declared.Task.{Task}
-use Rattle.rules.specs.Table.{Table, queueCount, ableQueue, taskOf, mutexOf, queueOf, works, placeOf, firstIn, isAble, written, withTask, withQueue, withRunning, withWork, withLeft, withState, withMark, withOutcome}
+use Rattle.rules.specs.Table.{Table, queueCount, ableQueue, taskOf, holderOf, queueOf, works, firstIn, isAble, written, withTask, withQueue, withRunning, withWork, withLeft, withState, withMark, withOutcome}
+use Rattle.rules.specs.Family.{placeOf}
 
 -- ---- the one door
 
@@ -28,26 +29,28 @@ stays old new = eqb (placeOf old) (placeOf new) && eqb (old .work) (new .work)
 -- touched; else it leaves its queue and goes behind its equals in the other. (A number that is no task's changes nothing.)
 unfoldable pub put : ℕ → Task → Table → Table
 put i k t =
-    let elsewhere = join (placeOf k) i (leave (placeOf (taskOf t i)) i (withTask i k t)) in
-    let becomes = cond (stays (taskOf t i) k) (withTask i k t) elsewhere in
-    cond (ltb i taskCount) becomes t
+    let isTask = ltb i taskCount in
+    let isThere = stays (taskOf t i) k in
+    let there = withTask i k t in
+    let elsewhere = join (placeOf k) i (leave (placeOf (taskOf t i)) i there) in
+    cond isTask (cond isThere there elsewhere) t
 
 -- "the caller goes behind its equals, left = quantum": the able task i, at the end of its turn.
 unfoldable pub rotate : ℕ → Table → Table
 rotate i t =
+    let isTask = ltb i taskCount in
     let full = withTask i (withLeft (taskOf t i .quantum) (taskOf t i)) t in
     let rotated = withQueue ableQueue (moved (works t) i (queueOf t ableQueue)) full in
-    cond (ltb i taskCount) rotated t
+    cond isTask rotated t
 
 -- ---- the walk
 
--- The task that holds mutex m; `taskCount`, which is no task, for none.
-unfoldable pub holderOf : Table → ℕ → ℕ
-holderOf t m = cond (eqb (mutexOf t m .holder) 0) taskCount (mutexOf t m .holder - 1)
-
 -- The holder of the mutex for which j waits, or no task.
 unfoldable pub next : Table → ℕ → ℕ
-next t j = let holder = holderOf t (taskOf t j .object) in cond (eqb (taskOf t j .state) waitsMutex) holder taskCount
+next t j =
+    let waits = eqb (taskOf t j .state) waitsMutex in
+    let holder = holderOf t (taskOf t j .object) in
+    cond waits holder taskCount
 
 abbrev pub baseOf : Table → ℕ → ℕ
 baseOf t j = taskOf t j .base
@@ -86,8 +89,9 @@ ended outcome i t =
 unfoldable pub endedAll : ℕ → ℕ → ℕ → Table → Table
 endedAll zero outcome q t = t
 endedAll (suc n) outcome q t =
+    let isEmpty = eqb (firstIn q t) 0 in
     let others = endedAll n outcome q (ended outcome (firstIn q t - 1) t) in
-    cond (eqb (firstIn q t) 0) t others
+    cond isEmpty t others
 
 -- ---- the running task
 
@@ -99,8 +103,9 @@ chosen t = cond (eqb (t .depth) 0) (withRunning (firstIn ableQueue t) t) t
 unfoldable pub peerBelow : ℕ → ℕ → Table → Bool
 peerBelow zero i t = false
 peerBelow (suc n) i t =
+    let isPeer = not (eqb n i) && (isAble (taskOf t n) && eqb (taskOf t n .work) (taskOf t i .work)) in
     let before = peerBelow n i t in
-    cond (not (eqb n i) && (isAble (taskOf t n) && eqb (taskOf t n .work) (taskOf t i .work))) true before
+    cond isPeer true before
 
 -- "another able task has its working priority"
 abbrev pub hasPeer : ℕ → Table → Bool

@@ -2,25 +2,12 @@
 use mathlib.Core.Bool.{Bool, cond, not}
 use Prim.Native.Nat.{ℕ, _+_, _-_}
 use lib.Dec.{eqb, leb, ltb}
-use Rattle.rules.specs.Sizes.{mutexCount, mostNested, waitsMutex, given, done, notItsHolder, nestedTooDeep}
-use Rattle.rules.specs.Table.{Table, taskOf, mutexOf, mutexQueue, firstIn, written, noMutex, heldBy, withMutex}
-use Rattle.rules.specs.Move.{put, walk, holderOf, ready}
+use Rattle.rules.specs.Sizes.{mostNested, given, done, notItsHolder, nestedTooDeep}
+use Rattle.rules.specs.Table.{Table, taskOf, mutexOf, mutexQueue, firstIn, written, heldBy, withMutex}
+use Rattle.rules.specs.Move.{put, walk, ready}
 use Rattle.rules.specs.Time.{byCaller, callerOf}
-use Rattle.rules.specs.Family.{Family}
+use Rattle.rules.specs.Family.{mutexes}
 use Rattle.rules.specs.Object.{onOne, waitAnswer, waitAnswerOn, waits, taken}
-
--- "a free mutex is taken"
-abbrev pub mutexes : Family
-mutexes =
-    record {
-      state = waitsMutex;
-      count = mutexCount;
-      first = mutexQueue 0;
-      used = λ t m. mutexOf t m .used;
-      gone = λ m t. withMutex m noMutex t;
-      offers = λ t m. eqb (mutexOf t m .holder) 0;
-      holder = holderOf;
-    }
 
 -- "A mutex is free, or has a holder"
 abbrev pub isHeld : ℕ → Table → Bool
@@ -49,10 +36,12 @@ mutexWaitAnswer m block t = waitAnswerOn mutexes m block (takeAnswer m block t) 
 
 unfoldable pub mutexWait : ℕ → ℕ → Table → Table
 mutexWait m limit t =
+    let isFree = not (isHeld m t) in
+    let isNested = isOwn m t in
     let takes = taken (withMutex m (heldBy (written (callerOf t)) 1) t) in
     let nests = taken (withMutex m (heldBy (mutexOf t m .holder) (mutexOf t m .nesting + 1)) t) in
     let blocks = waits mutexes m limit t in
-    cond (not (isHeld m t)) takes (cond (isOwn m t) nests blocks)
+    cond isFree takes (cond isNested nests blocks)
 
 -- ---- "Mutex post: nesting less 1; at 0 the releaser moves first, then the first waiter becomes holder with nesting 1 and becomes
 -- plain, outcome 0, or the mutex is free." While the releaser moves, the mutex no longer counts for it.
@@ -64,8 +53,9 @@ mutexPostAnswer m t = byCaller t (onOne mutexes m t (cond (not (isOwn m t)) notI
 -- The task written w is the new holder; none where w is 0.
 unfoldable pub handed : ℕ → ℕ → Table → Table
 handed m w t =
+    let isNobody = eqb w 0 in
     let holds = put (w - 1) (ready given (taskOf t (w - 1))) (withMutex m (heldBy w 1) t) in
-    cond (eqb w 0) t holds
+    cond isNobody t holds
 
 unfoldable pub released : ℕ → Table → Table
 released m t =
@@ -74,6 +64,7 @@ released m t =
 
 unfoldable pub mutexPost : ℕ → Table → Table
 mutexPost m t =
+    let isNested = ltb 1 (mutexOf t m .nesting) in
     let keeps = withMutex m (heldBy (mutexOf t m .holder) (mutexOf t m .nesting - 1)) t in
     let gone = released m t in
-    cond (ltb 1 (mutexOf t m .nesting)) keeps gone
+    cond isNested keeps gone

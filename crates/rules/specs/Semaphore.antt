@@ -1,25 +1,12 @@
 -- Semaphores: what is their own. `Object` has their delete and their abort.
 use mathlib.Core.Bool.{cond}
 use Prim.Native.Nat.{ℕ, _+_, _-_}
-use lib.Dec.{leb, ltb}
-use Rattle.rules.specs.Sizes.{taskCount, semaphoreCount, mostCount, waitsSemaphore, given, done, countFull}
-use Rattle.rules.specs.Table.{Table, semaphoreOf, semaphoreQueue, firstIn, noSemaphore, counting, withSemaphore}
+use lib.Dec.{leb}
+use Rattle.rules.specs.Sizes.{mostCount, given, done, countFull}
+use Rattle.rules.specs.Table.{Table, semaphoreOf, semaphoreQueue, firstIn, counting, withSemaphore}
 use Rattle.rules.specs.Move.{ended}
-use Rattle.rules.specs.Family.{Family}
+use Rattle.rules.specs.Family.{semaphores}
 use Rattle.rules.specs.Object.{onOne, hasWaiter, waitAnswer, waitAnswerOn, waits, taken}
-
--- "A semaphore with count above 0 is taken"; it has no holder.
-abbrev pub semaphores : Family
-semaphores =
-    record {
-      state = waitsSemaphore;
-      count = semaphoreCount;
-      first = semaphoreQueue 0;
-      used = λ t s. semaphoreOf t s .used;
-      gone = λ s t. withSemaphore s noSemaphore t;
-      offers = λ t s. ltb 0 (semaphoreOf t s .count);
-      holder = λ t s. taskCount;
-    }
 
 -- ---- "10 semaphore create (number, count 4 bytes)": it has the count that is given, and no waiter
 
@@ -33,9 +20,10 @@ semaphoreWaitAnswer s block t = waitAnswerOn semaphores s block (cond (semaphore
 
 unfoldable pub semaphoreWait : ℕ → ℕ → Table → Table
 semaphoreWait s limit t =
+    let isThere = semaphores .offers t s in
     let takes = taken (withSemaphore s (counting (semaphoreOf t s .count - 1)) t) in
     let blocks = waits semaphores s limit t in
-    cond (semaphores .offers t s) takes blocks
+    cond isThere takes blocks
 
 -- ---- "Semaphore post: the first waiter is given it (outcome 0, count unchanged), else count plus 1."
 
@@ -45,6 +33,7 @@ semaphorePostAnswer s t = onOne semaphores s t (cond (leb mostCount (semaphoreOf
 
 unfoldable pub semaphorePost : ℕ → Table → Table
 semaphorePost s t =
+    let isAwaited = hasWaiter (semaphoreQueue s) t in
     let gives = ended given (firstIn (semaphoreQueue s) t - 1) t in
     let counts = withSemaphore s (counting (semaphoreOf t s .count + 1)) t in
-    cond (hasWaiter (semaphoreQueue s) t) gives counts
+    cond isAwaited gives counts

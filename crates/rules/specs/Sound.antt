@@ -2,17 +2,16 @@
 use mathlib.Core.Path.{_≡_}
 use mathlib.Core.Logic.{_⊎_}
 use mathlib.Core.Bool.{Bool, true, false, cond, not, _&&_, _||_}
+use mathlib.Core.List.{List, [], _∷_}
 use Prim.Native.Nat.{ℕ, zero, suc, _-_, _≤_, _<_}
 use lib.Dec.{eqb, ltb, leb}
 use lib.ListN.{length}
 use Rattle.queue.specs.Order.{All, Ordered, count, isOrdered}
-use Rattle.rules.specs.Sizes.{taskCount, semaphoreCount, mutexCount, lastPriority, mostNested, mostQuantum, mostCount, ticksRound, plain, delayed, waitsSemaphore, waitsMutex, objectDeleted}
+use Rattle.rules.specs.Sizes.{taskCount, semaphoreCount, mutexCount, lastPriority, mostNested, mostQuantum, mostCount, ticksRound, plain, delayed, objectDeleted}
 use Rattle.rules.specs.Chain.{Fresh}
-use Rattle.rules.specs.Table.{Table, taskOf, semaphoreOf, mutexOf, queueOf, queueCount, ableQueue, firstIn, works, placeOf, isAble, written, noTask, noSemaphore, noMutex}
+use Rattle.rules.specs.Table.{Table, taskOf, semaphoreOf, mutexOf, queueOf, queueCount, ableQueue, firstIn, works, isAble, written, noTask, noSemaphore, noMutex}
 use Rattle.rules.specs.Move.{next, baseOf, freshIn}
-use Rattle.rules.specs.Family.{Family}
-use Rattle.rules.specs.Semaphore.{semaphores}
-use Rattle.rules.specs.Mutex.{mutexes}
+use Rattle.rules.specs.Family.{Family, Among, families, lastState, objectsIn, placeOf}
 use Rattle.rules.specs.declared.Task.{Task}
 use Rattle.rules.specs.declared.Semaphore.{Semaphore}
 use Rattle.rules.specs.declared.Mutex.{Mutex}
@@ -25,6 +24,11 @@ Each n P = (i : ℕ) → i < n → P i
 unfoldable pub each : ℕ → (ℕ → Bool) → Bool
 each zero p = true
 each (suc n) p = let before = each n p in cond (p n) before false
+
+-- Each family of the list.
+unfoldable pub eachOf : List Family → (Family → Bool) → Bool
+eachOf [] p = true
+eachOf (f ∷ fs) p = let others = eachOf fs p in cond (p f) others false
 
 -- Where a holds, b does.
 abbrev pub implies : Bool → Bool → Bool
@@ -57,10 +61,6 @@ isShaped t =
 
 -- ---- "All fields are in range"
 
--- How many numbers the object of a task may have: those of the kind it waits for, and none but 0 where it waits for nothing.
-unfoldable pub objectsIn : ℕ → ℕ
-objectsIn state = cond (eqb state waitsSemaphore) semaphoreCount (cond (eqb state waitsMutex) mutexCount 1)
-
 -- How many numbers a due mark may have: none but 0 where there is none.
 unfoldable pub marksIn : ℕ → ℕ
 marksIn marked = cond (eqb marked 0) 1 ticksRound
@@ -72,7 +72,7 @@ pub record TaskInRange (k : Task) : Type 0 where
   pub suspend : k .suspend ≤ mostNested
   pub quantum : k .quantum ≤ mostQuantum
   pub left : k .left ≤ mostQuantum
-  pub state : k .state ≤ waitsMutex
+  pub state : k .state ≤ lastState
   pub object : k .object < objectsIn (k .state)
   pub marked : k .marked ≤ 1
   pub due : k .due < marksIn (k .marked)
@@ -86,7 +86,7 @@ isTaskInRange k =
     && (leb (k .suspend) mostNested
     && (leb (k .quantum) mostQuantum
     && (leb (k .left) mostQuantum
-    && (leb (k .state) waitsMutex
+    && (leb (k .state) lastState
     && (ltb (k .object) (objectsIn (k .state))
     && (leb (k .marked) 1
     && (ltb (k .due) (marksIn (k .marked))
@@ -117,7 +117,7 @@ isNoMutex x = eqb (x .used) 0 && (eqb (x .holder) 0 && eqb (x .nesting) 0)
 
 -- ---- a task
 
-pub record TaskRight (k : Task) : Type 0 where
+pub record SoundTask (k : Task) : Type 0 where
   -- "All fields are in range; a free number has zero fields"
   pub inRange : TaskInRange k
   pub freeZero : k .used ≡ 0 → k ≡ noTask
@@ -126,29 +126,29 @@ pub record TaskRight (k : Task) : Type 0 where
   pub delayMark : k .state ≡ delayed → k .marked ≡ 1
   pub left : k .left ≤ k .quantum
 
-unfoldable pub isTaskRight : Task → Bool
-isTaskRight k =
+unfoldable pub isSoundTask : Task → Bool
+isSoundTask k =
     isTaskInRange k
     && (implies (eqb (k .used) 0) (isNoTask k)
     && (implies (eqb (k .state) plain) (eqb (k .marked) 0)
     && (implies (eqb (k .state) delayed) (eqb (k .marked) 1)
     && leb (k .left) (k .quantum))))
 
-abbrev pub TasksRight : Table → Type 0
-TasksRight t = Each taskCount (λ i. TaskRight (taskOf t i))
+abbrev pub SoundTasks : Table → Type 0
+SoundTasks t = Each taskCount (λ i. SoundTask (taskOf t i))
 
 -- ---- an object
 
-pub record SemaphoreRight (x : Semaphore) : Type 0 where
+pub record SoundSemaphore (x : Semaphore) : Type 0 where
   pub used : x .used ≤ 1
   pub count : x .count ≤ mostCount
   pub free : x .used ≡ 0 → x ≡ noSemaphore
 
-unfoldable pub isSemaphoreRight : Semaphore → Bool
-isSemaphoreRight x = leb (x .used) 1 && (leb (x .count) mostCount && implies (eqb (x .used) 0) (isNoSemaphore x))
+unfoldable pub isSoundSemaphore : Semaphore → Bool
+isSoundSemaphore x = leb (x .used) 1 && (leb (x .count) mostCount && implies (eqb (x .used) 0) (isNoSemaphore x))
 
 -- "A free mutex has nesting 0"; a held one has "a nesting of 1 to 250"
-pub record MutexRight (x : Mutex) : Type 0 where
+pub record SoundMutex (x : Mutex) : Type 0 where
   pub used : x .used ≤ 1
   pub holder : x .holder ≤ taskCount
   pub nesting : x .nesting ≤ mostNested
@@ -156,8 +156,8 @@ pub record MutexRight (x : Mutex) : Type 0 where
   pub unheld : x .holder ≡ 0 → x .nesting ≡ 0
   pub held : (x .holder ≡ 0 → ⊥) → 1 ≤ x .nesting
 
-unfoldable pub isMutexRight : Mutex → Bool
-isMutexRight x =
+unfoldable pub isSoundMutex : Mutex → Bool
+isSoundMutex x =
     leb (x .used) 1
     && (leb (x .holder) taskCount
     && (leb (x .nesting) mostNested
@@ -175,44 +175,39 @@ pub record MayWait (f : Family) (t : Table) (i o : ℕ) : Type 0 where
 unfoldable pub mayWait : Family → Table → ℕ → ℕ → Bool
 mayWait f t i o = eqb (f .used t o) 1 && (not (f .offers t o) && not (eqb (f .holder t o) i))
 
--- Of each family.
-pub record OfEach (P : Family → Type 0) : Type 0 where
-  pub semaphore : P semaphores
-  pub mutex : P mutexes
+-- Task i may be in that state, for that object: whichever family the state is of, it may wait for that number.
+abbrev pub SoundWait : Table → (i state object : ℕ) → Type 0
+SoundWait t i state object = (f : Family) → Among f families → state ≡ f .state → MayWait f t i object
 
--- Task i may be in that state, for that object.
-abbrev pub WaitRight : Table → (i state object : ℕ) → Type 0
-WaitRight t i state object = OfEach (λ f. state ≡ f .state → MayWait f t i object)
+unfoldable pub isSoundWait : Table → (i state object : ℕ) → Bool
+isSoundWait t i state object = eachOf families (λ f. implies (eqb state (f .state)) (mayWait f t i object))
 
-unfoldable pub isWaitRight : Table → (i state object : ℕ) → Bool
-isWaitRight t i state object = implies (eqb state (semaphores .state)) (mayWait semaphores t i object) && implies (eqb state (mutexes .state)) (mayWait mutexes t i object)
-
-pub record ObjectsRight (t : Table) : Type 0 where
-  pub semaphores : Each semaphoreCount (λ s. SemaphoreRight (semaphoreOf t s))
-  pub mutexes : Each mutexCount (λ m. MutexRight (mutexOf t m))
-  pub waits : Each taskCount (λ i. WaitRight t i (taskOf t i .state) (taskOf t i .object))
+pub record SoundObjects (t : Table) : Type 0 where
+  pub semaphores : Each semaphoreCount (λ s. SoundSemaphore (semaphoreOf t s))
+  pub mutexes : Each mutexCount (λ m. SoundMutex (mutexOf t m))
+  pub waits : Each taskCount (λ i. SoundWait t i (taskOf t i .state) (taskOf t i .object))
   -- "a holder is in use"
   pub holders : Each mutexCount (λ m. (mutexOf t m .holder ≡ 0 → ⊥) → taskOf t (mutexOf t m .holder - 1) .used ≡ 1)
 
-unfoldable pub isObjectsRight : Table → Bool
-isObjectsRight t =
-    each semaphoreCount (λ s. isSemaphoreRight (semaphoreOf t s))
-    && (each mutexCount (λ m. isMutexRight (mutexOf t m))
-    && (each taskCount (λ i. isWaitRight t i (taskOf t i .state) (taskOf t i .object))
+unfoldable pub isSoundObjects : Table → Bool
+isSoundObjects t =
+    each semaphoreCount (λ s. isSoundSemaphore (semaphoreOf t s))
+    && (each mutexCount (λ m. isSoundMutex (mutexOf t m))
+    && (each taskCount (λ i. isSoundWait t i (taskOf t i .state) (taskOf t i .object))
     && each mutexCount (λ m. implies (not (eqb (mutexOf t m .holder) 0)) (eqb (taskOf t (mutexOf t m .holder - 1) .used) 1))))
 
 -- ---- the queues
 
 -- "The able queue holds each able task once and nothing else; each object's queue holds each of its waiters once and nothing else." "Queues
 -- are ordered."
-pub record Queued (t : Table) : Type 0 where
+pub record SoundQueues (t : Table) : Type 0 where
   pub shaped : Shaped t
   pub places : Each queueCount (λ q. Each taskCount (λ i. count (written i) (queueOf t q) ≡ once (eqb (placeOf (taskOf t i)) q)))
   pub nothingElse : Each queueCount (λ q. All (λ v. v ≤ taskCount) (queueOf t q))
   pub ordered : Each queueCount (λ q. Ordered (works t) (queueOf t q))
 
-unfoldable pub isQueued : Table → Bool
-isQueued t =
+unfoldable pub isSoundQueues : Table → Bool
+isSoundQueues t =
     isShaped t
     && (each queueCount (λ q. each taskCount (λ i. eqb (count (written i) (queueOf t q)) (once (eqb (placeOf (taskOf t i)) q))))
     && each queueCount (λ q. isOrdered (works t) (queueOf t q)))
@@ -223,25 +218,25 @@ isQueued t =
 abbrev pub WorkedOut : Table → Type 0
 WorkedOut t = Each taskCount (λ i. Fresh taskCount (next t) (baseOf t) i (taskOf t i .work))
 
-unfoldable pub isWorked : Table → Bool
-isWorked t = each taskCount (λ i. eqb (taskOf t i .work) (freshIn t i))
+unfoldable pub isWorkedOut : Table → Bool
+isWorkedOut t = each taskCount (λ i. eqb (taskOf t i .work) (freshIn t i))
 
 -- ---- what each move of a call keeps
 
-pub record Settled (t : Table) : Type 0 where
-  pub queued : Queued t
+pub record SoundWithin (t : Table) : Type 0 where
+  pub queued : SoundQueues t
   pub worked : WorkedOut t
-  pub tasks : TasksRight t
-  pub objects : ObjectsRight t
+  pub tasks : SoundTasks t
+  pub objects : SoundObjects t
   pub tick : t .tick < ticksRound
   pub depth : t .depth ≤ mostNested
 
-unfoldable pub isSettled : Table → Bool
-isSettled t =
-    isQueued t
-    && (isWorked t
-    && (each taskCount (λ i. isTaskRight (taskOf t i))
-    && (isObjectsRight t
+unfoldable pub isSoundWithin : Table → Bool
+isSoundWithin t =
+    isSoundQueues t
+    && (isWorkedOut t
+    && (each taskCount (λ i. isSoundTask (taskOf t i))
+    && (isSoundObjects t
     && (ltb (t .tick) ticksRound
     && leb (t .depth) mostNested))))
 
@@ -253,13 +248,13 @@ NotDue t = Each taskCount (λ i. taskOf t i .marked ≡ 1 → taskOf t i .due �
 
 -- "At lock depth 0 the running task is the first of the able queue, or none if that is empty; at greater depth it is an able task
 -- or none."
-pub record RunsRight (t : Table) : Type 0 where
+pub record SoundRuns (t : Table) : Type 0 where
   pub range : t .running ≤ taskCount
   pub first : t .depth ≡ 0 → t .running ≡ firstIn ableQueue t
   pub able : (t .depth ≡ 0 → ⊥) → (t .running ≡ 0) ⊎ (isAble (taskOf t (t .running - 1)) ≡ true)
 
-unfoldable pub runsRight : Table → Bool
-runsRight t =
+unfoldable pub isSoundRuns : Table → Bool
+isSoundRuns t =
     leb (t .running) taskCount
     && (implies (eqb (t .depth) 0) (eqb (t .running) (firstIn ableQueue t))
     && implies (not (eqb (t .depth) 0)) (eqb (t .running) 0 || isAble (taskOf t (t .running - 1))))
@@ -267,12 +262,12 @@ runsRight t =
 -- ---- the standing rules
 
 pub record Sound (t : Table) : Type 0 where
-  pub settled : Settled t
+  pub settled : SoundWithin t
   pub notDue : NotDue t
-  pub runs : RunsRight t
+  pub runs : SoundRuns t
 
 unfoldable pub isSound : Table → Bool
 isSound t =
-    isSettled t
+    isSoundWithin t
     && (each taskCount (λ i. implies (eqb (taskOf t i .marked) 1) (not (eqb (taskOf t i .due) (t .tick))))
-    && runsRight t)
+    && isSoundRuns t)

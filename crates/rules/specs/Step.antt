@@ -1,7 +1,8 @@
 -- A call: its answer, its effect, and the step that the kernel makes.
-use mathlib.Core.Bool.{Bool, true, false, cond, not, _&&_, _||_}
+use mathlib.Core.Bool.{Bool, false, cond, not, _&&_, _||_}
 use Prim.Native.Nat.{ℕ, _<_}
 use lib.Dec.{eqb}
+use lib.ListN.{getD}
 use Rattle.rules.specs.Sizes.{ticksRound, done, byInterrupt, blocks, notSound}
 use Rattle.rules.specs.Table.{Table}
 use Rattle.rules.specs.Move.{chosen}
@@ -9,10 +10,12 @@ use Rattle.rules.specs.Task.{createAnswer, create, deleteAnswer, delete,
 use Rattle.rules.specs.Time.{yieldAnswer, yield, delayAnswer, delay, delayResumeAnswer, delayResume}
 use Rattle.rules.specs.Lock.{lockAnswer, lock, unlockAnswer, unlock}
 use Rattle.rules.specs.Object.{objectCreateAnswer, objectDeleteAnswer, objectDelete, objectAbortAnswer, objectAbort}
-use Rattle.rules.specs.Semaphore.{semaphores, semaphoreCreate, semaphoreWaitAnswer, semaphoreWait, semaphorePostAnswer, semaphorePost}
-use Rattle.rules.specs.Mutex.{mutexes, mutexCreate, mutexWaitAnswer, mutexWait, mutexPostAnswer, mutexPost}
+use Rattle.rules.specs.Semaphore.{semaphoreCreate, semaphoreWaitAnswer, semaphoreWait, semaphorePostAnswer, semaphorePost}
+use Rattle.rules.specs.Family.{semaphores, mutexes}
+use Rattle.rules.specs.Mutex.{mutexCreate, mutexWaitAnswer, mutexWait, mutexPostAnswer, mutexPost}
 use Rattle.rules.specs.Tick.{ticked}
 use Rattle.rules.specs.Sound.{isSound}
+use Rattle.rules.specs.Kinds.{toldOf, kindOf, numbersOf}
 use Rattle.rules.specs.declared.Call.{Call}
 use Rattle.rules.specs.declared.Call.the-variants.{TaskCreate, TaskDelete, ChangePriority, Suspend, Resume, Yield, Delay, DelayResume, Lock, Unlock, Tick, SemaphoreCreate, SemaphoreDelete, SemaphoreWait, SemaphorePost, SemaphoreAbort, MutexCreate, MutexDelete, MutexWait, MutexPost, MutexAbort}
 
@@ -66,27 +69,7 @@ changeBy (MutexAbort m) t = objectAbort mutexes m t
 
 -- "made by an interrupt, and not a tick or a semaphore post": 5
 unfoldable pub forInterrupts : Call → Bool
-forInterrupts (TaskCreate i base quantum) = false
-forInterrupts (TaskDelete i) = false
-forInterrupts (ChangePriority i base) = false
-forInterrupts (Suspend i) = false
-forInterrupts (Resume i) = false
-forInterrupts Yield = false
-forInterrupts (Delay n) = false
-forInterrupts (DelayResume i) = false
-forInterrupts Lock = false
-forInterrupts Unlock = false
-forInterrupts Tick = true
-forInterrupts (SemaphoreCreate s n) = false
-forInterrupts (SemaphoreDelete s force) = false
-forInterrupts (SemaphoreWait s block limit) = false
-forInterrupts (SemaphorePost s) = true
-forInterrupts (SemaphoreAbort s) = false
-forInterrupts (MutexCreate m) = false
-forInterrupts (MutexDelete m force) = false
-forInterrupts (MutexWait m block limit) = false
-forInterrupts (MutexPost m) = false
-forInterrupts (MutexAbort m) = false
+forInterrupts c = toldOf (kindOf c) (λ r. r .interrupts) false
 
 unfoldable pub answer : Call → Bool → Table → ℕ
 answer c interrupt t = cond (interrupt && not (forInterrupts c)) byInterrupt (answerTo c t)
@@ -95,29 +78,9 @@ answer c interrupt t = cond (interrupt && not (forInterrupts c)) byInterrupt (an
 unfoldable pub effect : Call → Table → Table
 effect c t = chosen (changeBy c t)
 
--- "numbers have 32 bits": what a call's own numbers may be. Each other number is tested against a smaller range before it is stored.
+-- "numbers have 32 bits"
 unfoldable pub Bounded : Call → Type 0
-Bounded (Delay n) = n < ticksRound
-Bounded (SemaphoreCreate s n) = n < ticksRound
-Bounded (SemaphoreWait s block limit) = limit < ticksRound
-Bounded (MutexWait m block limit) = limit < ticksRound
-Bounded (TaskCreate i base quantum) = Unit {0}
-Bounded (TaskDelete i) = Unit {0}
-Bounded (ChangePriority i base) = Unit {0}
-Bounded (Suspend i) = Unit {0}
-Bounded (Resume i) = Unit {0}
-Bounded Yield = Unit {0}
-Bounded (DelayResume i) = Unit {0}
-Bounded Lock = Unit {0}
-Bounded Unlock = Unit {0}
-Bounded Tick = Unit {0}
-Bounded (SemaphoreDelete s force) = Unit {0}
-Bounded (SemaphorePost s) = Unit {0}
-Bounded (SemaphoreAbort s) = Unit {0}
-Bounded (MutexCreate m) = Unit {0}
-Bounded (MutexDelete m force) = Unit {0}
-Bounded (MutexPost m) = Unit {0}
-Bounded (MutexAbort m) = Unit {0}
+Bounded c = (i : ℕ) → getD (numbersOf c) i 0 < ticksRound
 
 -- The answer, the new table, and the task to run: its number plus 1, 0 for none.
 pub record Outcome : Type 0 where

@@ -5,7 +5,7 @@ use mathlib.Core.List.{List, [], map}
 use Prim.Native.Nat.{ℕ, _+_, _-_}
 use lib.Dec.{eqb}
 use lib.ListN.{getD, set, replicate}
-use Rattle.rules.specs.Sizes.{taskCount, semaphoreCount, mutexCount, plain, waitsSemaphore, waitsMutex}
+use Rattle.rules.specs.Sizes.{taskCount, semaphoreCount, mutexCount, plain}
 use Rattle.rules.specs.declared.Task.{Task}
 use Rattle.rules.specs.declared.Semaphore.{Semaphore}
 use Rattle.rules.specs.declared.Mutex.{Mutex}
@@ -73,26 +73,40 @@ counting n = record { used = 1; count = n }
 abbrev pub heldBy : ℕ → ℕ → Mutex
 heldBy h n = record { used = 1; holder = h; nesting = n }
 
-abbrev pub withTask : ℕ → Task → Table → Table
-withTask i k t = record { tasks = set (t .tasks) i k; semaphores = t .semaphores; mutexes = t .mutexes; queues = t .queues; tick = t .tick; depth = t .depth; running = t .running }
+abbrev pub withTasks : List Task → Table → Table
+withTasks x t = record { tasks = x; semaphores = t .semaphores; mutexes = t .mutexes; queues = t .queues; tick = t .tick; depth = t .depth; running = t .running }
 
-abbrev pub withSemaphore : ℕ → Semaphore → Table → Table
-withSemaphore s x t = record { tasks = t .tasks; semaphores = set (t .semaphores) s x; mutexes = t .mutexes; queues = t .queues; tick = t .tick; depth = t .depth; running = t .running }
+abbrev pub withSemaphores : List Semaphore → Table → Table
+withSemaphores x t = record { tasks = t .tasks; semaphores = x; mutexes = t .mutexes; queues = t .queues; tick = t .tick; depth = t .depth; running = t .running }
 
-abbrev pub withMutex : ℕ → Mutex → Table → Table
-withMutex m x t = record { tasks = t .tasks; semaphores = t .semaphores; mutexes = set (t .mutexes) m x; queues = t .queues; tick = t .tick; depth = t .depth; running = t .running }
+abbrev pub withMutexes : List Mutex → Table → Table
+withMutexes x t = record { tasks = t .tasks; semaphores = t .semaphores; mutexes = x; queues = t .queues; tick = t .tick; depth = t .depth; running = t .running }
 
-abbrev pub withQueue : ℕ → List ℕ → Table → Table
-withQueue q l t = record { tasks = t .tasks; semaphores = t .semaphores; mutexes = t .mutexes; queues = set (t .queues) q l; tick = t .tick; depth = t .depth; running = t .running }
+abbrev pub withQueues : List (List ℕ) → Table → Table
+withQueues x t = record { tasks = t .tasks; semaphores = t .semaphores; mutexes = t .mutexes; queues = x; tick = t .tick; depth = t .depth; running = t .running }
 
 abbrev pub withTick : ℕ → Table → Table
-withTick n t = record { tasks = t .tasks; semaphores = t .semaphores; mutexes = t .mutexes; queues = t .queues; tick = n; depth = t .depth; running = t .running }
+withTick x t = record { tasks = t .tasks; semaphores = t .semaphores; mutexes = t .mutexes; queues = t .queues; tick = x; depth = t .depth; running = t .running }
 
 abbrev pub withDepth : ℕ → Table → Table
-withDepth n t = record { tasks = t .tasks; semaphores = t .semaphores; mutexes = t .mutexes; queues = t .queues; tick = t .tick; depth = n; running = t .running }
+withDepth x t = record { tasks = t .tasks; semaphores = t .semaphores; mutexes = t .mutexes; queues = t .queues; tick = t .tick; depth = x; running = t .running }
 
 abbrev pub withRunning : ℕ → Table → Table
-withRunning v t = record { tasks = t .tasks; semaphores = t .semaphores; mutexes = t .mutexes; queues = t .queues; tick = t .tick; depth = t .depth; running = v }
+withRunning x t = record { tasks = t .tasks; semaphores = t .semaphores; mutexes = t .mutexes; queues = t .queues; tick = t .tick; depth = t .depth; running = x }
+
+-- one task, object or queue changed
+
+abbrev pub withTask : ℕ → Task → Table → Table
+withTask i k t = withTasks (set (t .tasks) i k) t
+
+abbrev pub withSemaphore : ℕ → Semaphore → Table → Table
+withSemaphore s x t = withSemaphores (set (t .semaphores) s x) t
+
+abbrev pub withMutex : ℕ → Mutex → Table → Table
+withMutex m x t = withMutexes (set (t .mutexes) m x) t
+
+abbrev pub withQueue : ℕ → List ℕ → Table → Table
+withQueue q l t = withQueues (set (t .queues) q l) t
 
 -- ---- parts of a table
 
@@ -108,18 +122,22 @@ mutexOf t m = getD (t .mutexes) m noMutex
 abbrev pub queueOf : Table → ℕ → List ℕ
 queueOf t q = getD (t .queues) q []
 
--- "Queues: the able tasks, and the waiters of each object." The able queue first, then the semaphores', then the mutexes'.
-abbrev pub queueCount : ℕ
-queueCount = 33
+-- The task that holds mutex m; `taskCount`, which is no task, for none.
+unfoldable pub holderOf : Table → ℕ → ℕ
+holderOf t m = cond (eqb (mutexOf t m .holder) 0) taskCount (mutexOf t m .holder - 1)
 
+-- "Queues: the able tasks, and the waiters of each object." The able queue first, then the semaphores', then the mutexes'.
 abbrev pub ableQueue : ℕ
 ableQueue = 0
 
 abbrev pub semaphoreQueue : ℕ → ℕ
-semaphoreQueue s = 1 + s
+semaphoreQueue s = ableQueue + 1 + s
 
 abbrev pub mutexQueue : ℕ → ℕ
-mutexQueue m = 17 + m
+mutexQueue m = semaphoreQueue semaphoreCount + m
+
+abbrev pub queueCount : ℕ
+queueCount = mutexQueue mutexCount
 
 -- "A number is in use or free"
 abbrev pub isUsed : ℕ → Bool
@@ -128,13 +146,6 @@ isUsed used = eqb used 1
 -- "A task is able if it is in use, plain and its suspend count is 0."
 unfoldable pub isAble : Task → Bool
 isAble k = isUsed (k .used) && (eqb (k .state) plain && eqb (k .suspend) 0)
-
--- The queue where a task stands: the able queue, or that of the object it waits for; `queueCount` where it stands in none.
-unfoldable pub placeOf : Task → ℕ
-placeOf k =
-    cond (isAble k) ableQueue
-    (cond (eqb (k .state) waitsSemaphore) (semaphoreQueue (k .object))
-    (cond (eqb (k .state) waitsMutex) (mutexQueue (k .object)) queueCount))
 
 -- The working priorities, which are the keys of every queue.
 unfoldable pub works : Table → List ℕ

@@ -6,7 +6,7 @@ use lib.Dec.{eqb, ltb}
 use lib.ListN.{length, getD, take, drop}
 use Rattle.rules.specs.Table.{Table, freshTable}
 use Rattle.rules.specs.Step.{Outcome, step}
-use Rattle.rules.specs.Port.{plainKind, reading}
+use Rattle.rules.specs.Kinds.{widths, plainKind, reading}
 use Rattle.rules.specs.declared.Call.{Call}
 use Rattle.rules.specs.declared.Reading.{Reading}
 use Rattle.rules.specs.declared.Reading.the-variants.{Says, Unknown}
@@ -20,23 +20,6 @@ Bytes l = (j : ℕ) → getD l j 0 < 256
 unfoldable pub little : List ℕ → ℕ
 little [] = 0
 little (x ∷ xs) = x + 256 * little xs
-
--- How many bytes each number of a body has.
-unfoldable pub widths : ℕ → List ℕ
-widths k =
-    cond (eqb k 0x01) (1 ∷ 1 ∷ 2 ∷ [])
-    (cond (eqb k 0x03) (1 ∷ 1 ∷ [])
-    (cond (eqb k 0x07) (4 ∷ [])
-    (cond (eqb k 0x10) (1 ∷ 4 ∷ [])
-    (cond (eqb k 0x11) (1 ∷ 1 ∷ [])
-    (cond (eqb k 0x12) (1 ∷ 1 ∷ 4 ∷ [])
-    (cond (eqb k 0x21) (1 ∷ 1 ∷ [])
-    (cond (eqb k 0x22) (1 ∷ 1 ∷ 4 ∷ [])
-    (cond (eqb k 0x06) []
-    (cond (eqb k 0x09) []
-    (cond (eqb k 0x0A) []
-    (cond (eqb k 0x0B) []
-    (1 ∷ []))))))))))))
 
 unfoldable pub sum : List ℕ → ℕ
 sum [] = 0
@@ -52,7 +35,7 @@ bodyLength kind = sum (widths (plainKind kind))
 
 -- The call that a kind byte and its body say.
 unfoldable pub callIn : ℕ → List ℕ → Reading
-callIn kind body = let ns = numbers (widths (plainKind kind)) body in reading kind (getD ns 0 0) (getD ns 1 0) (getD ns 2 0)
+callIn kind body = reading kind (numbers (widths (plainKind kind)) body)
 
 -- ---- from calls to lines: "For each call one line: answer, a space, the running task's number or `-`."
 

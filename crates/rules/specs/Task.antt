@@ -35,7 +35,10 @@ create i base quantum t = put i (created base quantum) t
 -- Whether task i holds one of the first n mutexes.
 unfoldable pub holdsBelow : ℕ → ℕ → Table → Bool
 holdsBelow zero i t = false
-holdsBelow (suc n) i t = let before = holdsBelow n i t in cond (eqb (mutexOf t n .holder) (written i)) true before
+holdsBelow (suc n) i t =
+    let holds = eqb (mutexOf t n .holder) (written i) in
+    let before = holdsBelow n i t in
+    cond holds true before
 
 -- "lock depth above 0: .. delete of the running task", "delete of a task that holds a mutex"; "task delete 7 before 13"
 unfoldable pub deleteAnswer : ℕ → Table → ℕ

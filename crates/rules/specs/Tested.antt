@@ -14,16 +14,14 @@ use Rattle.queue.specs.Checked.{whole-checked, checked-whole}
 use Rattle.rules.specs.Sizes.{taskCount}
 use Rattle.rules.specs.Chain.{Ends, Fresh, fresh}
 use Rattle.rules.specs.Afresh.{lt-or-le, fresh-is, fresh-one}
-use Rattle.rules.specs.Table.{Table, taskOf, semaphoreOf, mutexOf, written, placeOf, works, noTask, noSemaphore, noMutex}
+use Rattle.rules.specs.Table.{Table, taskOf, semaphoreOf, mutexOf, written, works, noTask, noSemaphore, noMutex}
 use Rattle.rules.specs.Move.{next, freshIn}
 use Rattle.rules.specs.declared.Task.{Task}
 use Rattle.rules.specs.declared.Semaphore.{Semaphore}
 use Rattle.rules.specs.declared.Mutex.{Mutex}
-use Rattle.rules.specs.Sound.{Each, once, Shaped, isShaped, TaskInRange, isTaskInRange, isNoTask, isNoSemaphore, isNoMutex, TaskRight, isTaskRight, SemaphoreRight, isSemaphoreRight, MutexRight, isMutexRight, MayWait, mayWait, WaitRight, isWaitRight, ObjectsRight, isObjectsRight, Queued, isQueued, isWorked, Settled, isSettled, RunsRight, runsRight, Sound, isSound}
-use Rattle.rules.specs.Family.{Family}
-use Rattle.rules.specs.Semaphore.{semaphores}
-use Rattle.rules.specs.Mutex.{mutexes}
-use Rattle.rules.specs.Decides.{Decides, equals, at-most, itself, fails, if-so, either, first, last, each-one}
+use Rattle.rules.specs.Sound.{Each, once, Shaped, isShaped, TaskInRange, isTaskInRange, isNoTask, isNoSemaphore, isNoMutex, SoundTask, isSoundTask, SoundSemaphore, isSoundSemaphore, SoundMutex, isSoundMutex, MayWait, mayWait, SoundWait, isSoundWait, SoundObjects, isSoundObjects, SoundQueues, isSoundQueues, isWorkedOut, SoundWithin, isSoundWithin, SoundRuns, isSoundRuns, Sound, isSound}
+use Rattle.rules.specs.Family.{Family, placeOf}
+use Rattle.rules.specs.Decides.{Decides, equals, at-most, itself, fails, if-so, either, first, last, each-one, each-of}
 
 -- ---- shape and ranges
 
@@ -88,8 +86,8 @@ no-mutex x =
 
 -- ---- tasks and objects
 
-pub task-right : (k : Task) → Decides (isTaskRight k) (TaskRight k)
-unfolding isTaskRight
+pub task-right : (k : Task) → Decides (isSoundTask k) (SoundTask k)
+unfolding isSoundTask
 task-right k =
     first (λ r. r .inRange) (task-in-range k) λ inRange.
     first (λ r. r .freeZero) (if-so equals (no-task k)) λ freeZero.
@@ -98,16 +96,16 @@ task-right k =
     last (λ r. r .left) at-most λ left.
     record { inRange = inRange; freeZero = freeZero; plainMark = plainMark; delayMark = delayMark; left = left }
 
-pub semaphore-right : (x : Semaphore) → Decides (isSemaphoreRight x) (SemaphoreRight x)
-unfolding isSemaphoreRight
+pub semaphore-right : (x : Semaphore) → Decides (isSoundSemaphore x) (SoundSemaphore x)
+unfolding isSoundSemaphore
 semaphore-right x =
     first (λ r. r .used) at-most λ used.
     first (λ r. r .count) at-most λ count.
     last (λ r. r .free) (if-so equals (no-semaphore x)) λ free.
     record { used = used; count = count; free = free }
 
-pub mutex-right : (x : Mutex) → Decides (isMutexRight x) (MutexRight x)
-unfolding isMutexRight
+pub mutex-right : (x : Mutex) → Decides (isSoundMutex x) (SoundMutex x)
+unfolding isSoundMutex
 mutex-right x =
     first (λ r. r .used) at-most λ used.
     first (λ r. r .holder) at-most λ holder.
@@ -125,15 +123,12 @@ may-wait f t i o =
     last (λ r. r .apart) (fails equals) λ apart.
     record { used = used; nothing = nothing; apart = apart }
 
-pub wait-right : (t : Table) (i state object : ℕ) → Decides (isWaitRight t i state object) (WaitRight t i state object)
-unfolding isWaitRight
-wait-right t i state object =
-    first (λ r. r .semaphore) (if-so equals (may-wait semaphores t i object)) λ semaphore.
-    last (λ r. r .mutex) (if-so equals (may-wait mutexes t i object)) λ mutex.
-    record { semaphore = semaphore; mutex = mutex }
+pub wait-right : (t : Table) (i state object : ℕ) → Decides (isSoundWait t i state object) (SoundWait t i state object)
+unfolding isSoundWait
+wait-right t i state object = each-of λ f. if-so equals (may-wait f t i object)
 
-pub objects-right : (t : Table) → Decides (isObjectsRight t) (ObjectsRight t)
-unfolding isObjectsRight
+pub objects-right : (t : Table) → Decides (isSoundObjects t) (SoundObjects t)
+unfolding isSoundObjects
 objects-right t =
     first (λ r. r .semaphores) (each-one λ s l. semaphore-right (semaphoreOf t s)) λ semaphores.
     first (λ r. r .mutexes) (each-one λ m l. mutex-right (mutexOf t m)) λ mutexes.
@@ -169,8 +164,8 @@ pub keyed : (t : Table) → Shaped t → length (works t) ≡ taskCount
 unfolding works
 keyed t s = length-map (t .tasks) (λ k. k .work) ∙ s .tasks
 
-queued : (t : Table) → Decides (isQueued t) (Queued t)
-unfolding isQueued
+queued : (t : Table) → Decides (isSoundQueues t) (SoundQueues t)
+unfolding isSoundQueues
 queued t =
     first (λ r. r .shaped) (shaped t) λ shaped.
     first (λ r. r .places) (each-one λ q l. each-one λ i m. equals) λ places.
@@ -194,8 +189,8 @@ worked {n} {next} {base} {i} {p} e l =
 
 -- ---- the standing rules
 
-settled : (t : Table) → Decides (isSettled t) (Settled t)
-unfolding isSettled isWorked freshIn
+settled : (t : Table) → Decides (isSoundWithin t) (SoundWithin t)
+unfolding isSoundWithin isWorkedOut freshIn
 settled t =
     first (λ s. s .queued) (queued t) λ queued.
     first (λ s. s .worked) (each-one λ i l. worked (ends t (queued .shaped)) l) λ worked.
@@ -205,8 +200,8 @@ settled t =
     last (λ s. s .depth) at-most λ depth.
     record { queued = queued; worked = worked; tasks = tasks; objects = objects; tick = tick; depth = depth }
 
-runs : (t : Table) → Decides (runsRight t) (RunsRight t)
-unfolding runsRight
+runs : (t : Table) → Decides (isSoundRuns t) (SoundRuns t)
+unfolding isSoundRuns
 runs t =
     first (λ r. r .range) at-most λ range.
     first (λ r. r .first) (if-so equals equals) λ front.

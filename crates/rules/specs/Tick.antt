@@ -12,10 +12,11 @@ use Rattle.rules.specs.Time.{callerOf}
 unfoldable pub turned : Table → Table
 turned t =
     let i = callerOf t in
+    let hasNoTurn = eqb (t .running) 0 || eqb (taskOf t i .quantum) 0 in
     let shorter = put i (withLeft (taskOf t i .left - 1) (taskOf t i)) t in
+    let isOver = eqb (taskOf shorter i .left) 0 && (eqb (shorter .depth) 0 && hasPeer i shorter) in
     let behind = rotate i shorter in
-    let turn = cond (eqb (taskOf shorter i .left) 0 && (eqb (shorter .depth) 0 && hasPeer i shorter)) behind shorter in
-    cond (eqb (t .running) 0 || eqb (taskOf t i .quantum) 0) t turn
+    cond hasNoTurn t (cond isOver behind shorter)
 
 -- "each task whose mark equals the counter, in rising number: it leaves its queue, the chain from the holder moves, it becomes plain,
 -- with outcome 1 for a wait and 0 for a delay"
@@ -24,7 +25,8 @@ isDue i t = eqb (taskOf t i .marked) 1 && eqb (taskOf t i .due) (t .tick)
 
 unfoldable pub dueEnded : ℕ → Table → Table
 dueEnded i t =
-    let over = ended (cond (eqb (taskOf t i .state) delayed) given timedOut) i t in
+    let outcome = cond (eqb (taskOf t i .state) delayed) given timedOut in
+    let over = ended outcome i t in
     cond (isDue i t) over t
 
 -- Those of the first n tasks.

@@ -1,4 +1,4 @@
--- A cell of zeros, told by its words. Assumes nothing.
+-- A cell of zeros, told by its words.
 use mathlib.Core.Path.{_≡_, ap}
 use mathlib.Core.Bool.{_&&_}
 use mathlib.Core.List.{List, [], _∷_}

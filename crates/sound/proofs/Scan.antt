@@ -1,4 +1,4 @@
--- The test of a queue, turn by turn. Assumes nothing.
+-- The test of a queue, turn by turn.
 use mathlib.Core.Path.{_≡_, refl, sym, ap, _∙_}
 use mathlib.Core.Logic.{⊎-elim}
 use mathlib.Core.Bool.{Bool, true, false, cond, false≢true}

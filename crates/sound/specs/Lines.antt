@@ -1,4 +1,4 @@
--- One queue, slot by slot. `spots` has where each task stands; a slot strikes the spot of its task out. Assumes nothing.
+-- One queue, slot by slot. `spots` has where each task stands; a slot strikes the spot of its task out.
 use mathlib.Core.Path.{_≡_, refl, ap, _∙_}
 use mathlib.Core.Logic.{_⊎_, inl, inr, ⊎-elim}
 use mathlib.Core.Bool.{Bool, true, false, cond, _&&_, false≢true}

@@ -8,7 +8,7 @@ use Rattle.rules.specs.Sizes.{taskCount, semaphoreCount, mutexCount, mostNested
 use Rattle.rules.specs.declared.Semaphore.{Semaphore}
 use Rattle.rules.specs.declared.Mutex.{Mutex}
 use Rattle.rules.specs.Table.{Table, taskOf, semaphoreOf, mutexOf}
-use Rattle.rules.specs.Sound.{Each, each, implies, SemaphoreRight, isSemaphoreRight, MutexRight, isMutexRight}
+use Rattle.rules.specs.Sound.{Each, each, implies, SoundSemaphore, isSoundSemaphore, SoundMutex, isSoundMutex}
 use Rattle.rules.specs.Decides.{Decides, equals, at-most, fails, if-so, first, last, each-one}
 use Rattle.rules.specs.Tested.{semaphore-right, mutex-right}
 use Rattle.sound.specs.Tests.{same-test}
@@ -16,32 +16,32 @@ use Rattle.sound.specs.Tests.{same-test}
 -- ---- semaphores
 
 abbrev pub semaphoreRight : Table → ℕ → Bool
-semaphoreRight t s = isSemaphoreRight (semaphoreOf t s)
+semaphoreRight t s = isSoundSemaphore (semaphoreOf t s)
 
 -- A free number, and one in use. Every count of 32 bits is in range.
 module _ (x : Semaphore) (c : x .count ≤ mostCount) where
-  pub free-right : x .used ≡ 0 → eqb (x .count) 0 ≡ isSemaphoreRight x
+  pub free-right : x .used ≡ 0 → eqb (x .count) 0 ≡ isSoundSemaphore x
   free-right e =
       same-test
       (last (λ r. ap (λ (y : Semaphore). y .count) (r .free e)) equals λ count. record { used = omega arith; count = c; free = λ q i. record { used = e i; count = count i } })
       (semaphore-right x)
 
-  pub used-right : (x .used ≡ 0 → ⊥) → eqb (x .used) 1 ≡ isSemaphoreRight x
+  pub used-right : (x .used ≡ 0 → ⊥) → eqb (x .used) 1 ≡ isSoundSemaphore x
   used-right n = same-test (last one equals λ used. record { used = omega arith; count = c; free = λ e. absurd (n e) }) (semaphore-right x)
     where
-      one : SemaphoreRight x → x .used ≡ 1
+      one : SoundSemaphore x → x .used ≡ 1
       one r = omega (arith, r .used)
 
-pub semaphores-right : (t : Table) → Decides (each semaphoreCount (semaphoreRight t)) (Each semaphoreCount (λ s. SemaphoreRight (semaphoreOf t s)))
+pub semaphores-right : (t : Table) → Decides (each semaphoreCount (semaphoreRight t)) (Each semaphoreCount (λ s. SoundSemaphore (semaphoreOf t s)))
 semaphores-right t = each-one (λ s l. semaphore-right (semaphoreOf t s))
 
 -- ---- mutexes: the record, and its holder is in use
 
 unfoldable pub mutexRight : Table → ℕ → Bool
-mutexRight t m = isMutexRight (mutexOf t m) && implies (not (eqb (mutexOf t m .holder) 0)) (eqb (taskOf t (mutexOf t m .holder - 1) .used) 1)
+mutexRight t m = isSoundMutex (mutexOf t m) && implies (not (eqb (mutexOf t m .holder) 0)) (eqb (taskOf t (mutexOf t m .holder - 1) .used) 1)
 
 pub record MutexPassed (t : Table) (m : ℕ) : Type 0 where
-  pub right : MutexRight (mutexOf t m)
+  pub right : SoundMutex (mutexOf t m)
   pub holder : (mutexOf t m .holder ≡ 0 → ⊥) → taskOf t (mutexOf t m .holder - 1) .used ≡ 1
 
 mutex-passed : (t : Table) (m : ℕ) → Decides (mutexRight t m) (MutexPassed t m)

@@ -1,4 +1,4 @@
--- All queues, one by one. Assumes nothing.
+-- All queues, one by one.
 use mathlib.Core.Path.{_≡_, refl, sym, ap, subst, _∙_}
 use mathlib.Core.Logic.{_⊎_, inl, inr, ⊎-elim}
 use mathlib.Core.Bool.{Bool, true, false, cond, _&&_, and-true, and-false, false≢true}
@@ -12,7 +12,8 @@ use lib.ListN.{length, getD}
 use borrow.Author.Tests.{eq-eqb, ne-eqb}
 use Rattle.queue.specs.Order.{All, Ordered, count}
 use Rattle.rules.specs.Sizes.{taskCount}
-use Rattle.rules.specs.Table.{Table, taskOf, queueOf, queueCount, written, works, placeOf}
+use Rattle.rules.specs.Table.{Table, taskOf, queueOf, queueCount, written, works}
+use Rattle.rules.specs.Family.{placeOf}
 use Rattle.rules.specs.Sound.{Each, each, once}
 use Rattle.rules.specs.Afresh.{lt-or-le}
 use Rattle.rules.specs.Tested.{once-most}
@@ -22,7 +23,7 @@ use Rattle.sound.specs.Lines.{struckOut, struck, lined, LinePassed, Line
 
 -- "The able queue holds each able task once and nothing else; each object's queue holds each of its waiters once and nothing else."
 -- "Queues are ordered."
-pub record Queued (t : Table) : Type 0 where
+pub record QueuesPassed (t : Table) : Type 0 where
   pub counts : Each queueCount (λ q. Each taskCount (λ i. count (written i) (queueOf t q) ≡ once (eqb (placeOf (taskOf t i)) q)))
   pub within : Each queueCount (λ q. All (λ v. v ≤ taskCount) (queueOf t q))
   pub ordered : Each queueCount (λ q. Ordered (works t) (queueOf t q))
@@ -143,12 +144,12 @@ module _ {t : Table} {q : ℕ} {spots after : List ℕ} {r : Bool} (h : q < queu
         ordered = each-next (s .ordered) (line .ordered);
       }
 
-  pub swept-stop : r ≡ false → Decides false (Queued t)
+  pub swept-stop : r ≡ false → Decides false (QueuesPassed t)
   swept-stop e =
-      let fits : Queued t → lined (works t) q 0 spots (queueOf t q) ≡ true = λ w. says .passes (record { ordered = w .ordered q h; within = w .within q h; alone = λ i m. mark-fits h (w .counts q h i m) (s .marks i m) }) in
+      let fits : QueuesPassed t → lined (works t) q 0 spots (queueOf t q) ≡ true = λ w. says .passes (record { ordered = w .ordered q h; within = w .within q h; alone = λ i m. mark-fits h (w .counts q h i m) (s .marks i m) }) in
       record { holds = λ x. absurd (false≢true x); passes = λ w. sym e ∙ l .test ∙ fits w }
 
-pub swept-end : {t : Table} {spots : List ℕ} {r : Bool} → Swept t queueCount spots → r ≡ each taskCount (λ i. leb queueCount (getD spots i 0)) → Decides r (Queued t)
+pub swept-end : {t : Table} {spots : List ℕ} {r : Bool} → Swept t queueCount spots → r ≡ each taskCount (λ i. leb queueCount (getD spots i 0)) → Decides r (QueuesPassed t)
 swept-end {t} {spots} {r} s e =
     record {
       holds = λ x. let d = all .holds (sym e ∙ x) in record { counts = λ q h i m. mark-end (s .marks i m) (d i m) q h; within = s .within; ordered = s .ordered };

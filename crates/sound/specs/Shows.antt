@@ -1,4 +1,4 @@
--- A list that shows a function. Assumes nothing.
+-- A list that shows a function.
 use mathlib.Core.Path.{_≡_, _∙_}
 use mathlib.Core.List.{List}
 use Prim.Native.Nat.{ℕ, _+_, _<_}

@@ -9,11 +9,11 @@ use borrow.Author.Tests.{eq-eqb, ne-eqb}
 use lib.Dec.{eqb, leb, ltb}
 use Rattle.rules.specs.Sizes.{taskCount, lastPriority, mostNested, mostQuantum, ticksRound, plain, delayed, waitsSemaphore, waitsMutex, objectDeleted}
 use Rattle.rules.specs.declared.Task.{Task}
-use Rattle.rules.specs.Table.{Table, taskOf, semaphoreOf, mutexOf, queueCount, placeOf, isAble, written, noTask}
-use Rattle.rules.specs.Semaphore.{semaphores}
-use Rattle.rules.specs.Mutex.{mutexes}
-use Rattle.rules.specs.Sound.{Each, each, TaskInRange, TaskRight, MayWait, WaitRight, isNoTask, objectsIn, marksIn}
-use Rattle.laws.specs.keeps.Objects.{may-awaited, awaited-may, may-apart, apart-may}
+use Rattle.rules.specs.Table.{Table, taskOf, semaphoreOf, mutexOf, queueCount, isAble, written, noTask}
+use Rattle.rules.specs.Family.{ofState, semaphores, mutexes, objectsIn, placeOf}
+use Rattle.rules.specs.Sound.{Each, each, TaskInRange, SoundTask, MayWait, SoundWait, isNoTask, marksIn}
+use Rattle.laws.specs.queues.Rows.{among-semaphores, among-mutexes, of-families, waiting}
+use Rattle.laws.specs.keeps.Objects.{one-wait, may-awaited, awaited-may, may-apart, apart-may}
 use Rattle.rules.specs.Tested.{no-task}
 use Rattle.rules.specs.Decides.{Decides, equals, at-most, fails, first, last, both, each-one}
 use Rattle.sound.specs.Tests.{unless, by-cases, always}
@@ -57,8 +57,8 @@ unfoldable pub isUseRight : Table → ℕ → Task → Bool
 isUseRight t i k = (isFit k && isTimely (t .tick) k) && isServed t i k
 
 -- A free number is all zero.
-unfoldable pub isTaskRight : Table → ℕ → Task → Bool
-isTaskRight t i k = cond (eqb (k .used) 0) (isNoTask k) (isUseRight t i k)
+unfoldable pub isTaskPassed : Table → ℕ → Task → Bool
+isTaskPassed t i k = cond (eqb (k .used) 0) (isNoTask k) (isUseRight t i k)
 
 -- The queue where a task stands, `queueCount` for none.
 unfoldable pub spotOf : Task → ℕ
@@ -66,14 +66,14 @@ spotOf k = min (placeOf k) queueCount
 
 -- The same, and `queueCount + 1` for a task that is not right.
 unfoldable pub spotIn : Table → ℕ → Task → ℕ
-spotIn t i k = cond (isTaskRight t i k) (spotOf k) 34
+spotIn t i k = cond (isTaskPassed t i k) (spotOf k) 34
 
 abbrev pub Spotted : Table → List ℕ → Type 0
 Spotted t spots = Shows spots (λ i. spotOf (taskOf t i)) taskCount
 
 -- What the pass over the tasks answers and leaves.
 pub record TasksPassed (t : Table) (r : Bool) (spots : List ℕ) : Type 0 where
-  pub test : r ≡ each taskCount (λ i. isTaskRight t i (taskOf t i))
+  pub test : r ≡ each taskCount (λ i. isTaskPassed t i (taskOf t i))
   pub tick : t .tick < ticksRound
   pub spotted : r ≡ true → Spotted t spots
 
@@ -85,9 +85,9 @@ pub record Timely (tick : ℕ) (k : Task) : Type 0 where
   pub notDue : k .marked ≡ 1 → k .due ≡ tick → ⊥
 
 pub record TaskPassed (t : Table) (i : ℕ) (k : Task) : Type 0 where
-  pub right : TaskRight k
+  pub right : SoundTask k
   pub timely : Timely (t .tick) k
-  pub served : WaitRight t i (k .state) (k .object)
+  pub served : SoundWait t i (k .state) (k .object)
 
 timely : (tick : ℕ) (k : Task) → Decides (isTimely tick k) (Timely tick k)
 unfolding isTimely
@@ -107,23 +107,23 @@ module _ (t : Table) (i : ℕ) (l : i < taskCount) where
       (first (λ r. r .used) equals λ used. first (λ r. r .held) (fails equals) λ held. last (λ r. r .apart) (fails equals) λ apart. record { used = used; held = held; apart = apart })
       (apart-may t i o)
 
-  served : (k : Task) → Decides (isServed t i k) (WaitRight t i (k .state) (k .object))
+  served : (k : Task) → Decides (isServed t i k) (SoundWait t i (k .state) (k .object))
   unfolding isServed
   served k =
       by-cases equals
-      (λ e. last (λ r. r .semaphore e) (awaits (k .object)) λ u. record { semaphore = λ q. u; mutex = λ q. absurd (omega arith) })
+      (λ e. last (λ r. r _ among-semaphores e) (awaits (k .object)) λ u. rw e (one-wait among-semaphores u))
       (λ n. by-cases equals
-      (λ e. last (λ r. r .mutex e) (awaits-holder (k .object)) λ u. record { semaphore = λ q. absurd (n q); mutex = λ q. u })
-      (λ m. always (record { semaphore = λ q. absurd (n q); mutex = λ q. absurd (m q) })))
+      (λ e. last (λ r. r _ among-mutexes e) (awaits-holder (k .object)) λ u. rw e (one-wait among-mutexes u))
+      (λ m. always (of-families _ (λ q. absurd (n q)) (λ q. absurd (m q)))))
 
 -- The record of a free number is right.
 blank-right : (t : Table) (i : ℕ) → TaskPassed t i noTask
-unfolding objectsIn marksIn
+unfolding ofState marksIn
 blank-right t i =
     record {
       right = record { inRange = omega arith; freeZero = λ e. refl; plainMark = λ e. refl; delayMark = λ e. absurd (omega arith); left = omega arith };
       timely = record { plainMark = λ e. refl; delayMark = λ e. absurd (omega arith); notDue = λ e q. omega arith };
-      served = record { semaphore = λ e. absurd (omega arith); mutex = λ e. absurd (omega arith) };
+      served = λ f a e. absurd (omega (arith, waiting a));
     }
 
 -- The fields of a task in use.
@@ -152,8 +152,8 @@ fit k =
       left = left;
     }
 
-pub task-right : (t : Table) (i : ℕ) → i < taskCount → (k : Task) → Decides (isTaskRight t i k) (TaskPassed t i k)
-unfolding isTaskRight isUseRight
+pub task-right : (t : Table) (i : ℕ) → i < taskCount → (k : Task) → Decides (isTaskPassed t i k) (TaskPassed t i k)
+unfolding isTaskPassed isUseRight
 task-right t i l k =
     by-cases equals
     (λ e. last (λ r. r .right .freeZero e) (no-task k) λ z. subst (TaskPassed t i) (sym z) (blank-right t i))
@@ -164,11 +164,11 @@ task-right t i l k =
     used : (k .used ≡ 0 → ⊥) → TaskInRange k → k .used ≡ 1
     used n r = omega (arith, r .used)
 
-pub tasks-right : (t : Table) → Decides (each taskCount (λ i. isTaskRight t i (taskOf t i))) (Each taskCount (λ i. TaskPassed t i (taskOf t i)))
+pub tasks-right : (t : Table) → Decides (each taskCount (λ i. isTaskPassed t i (taskOf t i))) (Each taskCount (λ i. TaskPassed t i (taskOf t i)))
 tasks-right t = each-one (λ i l. task-right t i l (taskOf t i))
 
 objects-most : (state : ℕ) → objectsIn state ≤ 16
-unfolding objectsIn
+unfolding ofState
 objects-most state = go (eqb state waitsSemaphore) (eqb state waitsMutex)
   where
     go : (a b : Bool) → cond a 16 (cond b 16 1) ≤ 16
@@ -183,17 +183,17 @@ fit-object k e = omega (arith, fit k .holds e .inRange .object, objects-most (k 
 -- ---- the order in which the code asks
 
 -- One that is not blank is right where it is right as a task in use.
-use-right : (t : Table) (i : ℕ) (k : Task) → isNoTask k ≡ false → isTaskRight t i k ≡ isUseRight t i k
-unfolding isTaskRight isUseRight isFit
+use-right : (t : Table) (i : ℕ) (k : Task) → isNoTask k ≡ false → isTaskPassed t i k ≡ isUseRight t i k
+unfolding isTaskPassed isUseRight isFit
 use-right t i k e = go (ℕ-discrete (k .used) 0)
   where
-    go : Dec (k .used ≡ 0) → isTaskRight t i k ≡ isUseRight t i k
+    go : Dec (k .used ≡ 0) → isTaskPassed t i k ≡ isUseRight t i k
     go (yes z) = rw (eq-eqb (k .used) 0 z, e, ne-eqb (k .used) 1 (λ o. omega arith))
     go (no n) = rw (ne-eqb (k .used) 0 n)
 
 -- A blank number is right and stands nowhere.
 pub spot-blank : (t : Table) (i : ℕ) (k : Task) → isNoTask k ≡ true → 33 ≡ spotIn t i k
-unfolding spotIn isTaskRight spotOf placeOf isAble isNoTask
+unfolding spotIn isTaskPassed spotOf placeOf ofState isAble isNoTask
 spot-blank t i k e = rw (no-task k .holds e) refl
 
 pub spot-used : (t : Table) (i : ℕ) (k : Task) (b : Bool) → isNoTask k ≡ false → isUseRight t i k ≡ b → cond b (spotOf k) 34 ≡ spotIn t i k
@@ -205,18 +205,18 @@ unfolding spotOf
 spot-most k = omega arith
 
 -- The spot tells whether the task is right.
-pub spot-past : (t : Table) (i : ℕ) (k : Task) → 33 < spotIn t i k → isTaskRight t i k ≡ false
+pub spot-past : (t : Table) (i : ℕ) (k : Task) → 33 < spotIn t i k → isTaskPassed t i k ≡ false
 unfolding spotIn
-spot-past t i k h = go (isTaskRight t i k) refl
+spot-past t i k h = go (isTaskPassed t i k) refl
   where
-    go : (b : Bool) → isTaskRight t i k ≡ b → isTaskRight t i k ≡ false
+    go : (b : Bool) → isTaskPassed t i k ≡ b → isTaskPassed t i k ≡ false
     go true e = absurd (omega (arith, spot-most k, subst (λ (c : Bool). 33 < cond c (spotOf k) 34) e h))
     go false e = e
 
-pub spot-here : (t : Table) (i : ℕ) (k : Task) → spotIn t i k ≤ 33 → (isTaskRight t i k ≡ true) × (spotIn t i k ≡ spotOf k)
+pub spot-here : (t : Table) (i : ℕ) (k : Task) → spotIn t i k ≤ 33 → (isTaskPassed t i k ≡ true) × (spotIn t i k ≡ spotOf k)
 unfolding spotIn
-spot-here t i k h = go (isTaskRight t i k) refl
+spot-here t i k h = go (isTaskPassed t i k) refl
   where
-    go : (b : Bool) → isTaskRight t i k ≡ b → (isTaskRight t i k ≡ true) × (spotIn t i k ≡ spotOf k)
+    go : (b : Bool) → isTaskPassed t i k ≡ b → (isTaskPassed t i k ≡ true) × (spotIn t i k ≡ spotOf k)
     go true e = (e, rw e refl)
     go false e = absurd (omega (arith, subst (λ (c : Bool). cond c (spotOf k) 34 ≤ 33) e h))

@@ -1,4 +1,4 @@
--- More laws of tests that decide statements, and of tests of each number below n. Assumes nothing.
+-- More laws of tests that decide statements, and of tests of each number below n.
 use mathlib.Core.Path.{_≡_, refl, sym, _∙_}
 use mathlib.Core.Bool.{Bool, true, false, cond, not, _&&_, _||_, false≢true, true≢false}
 use Prim.Native.Nat.{ℕ, zero, suc, _+_, _<_}

@@ -1,4 +1,4 @@
--- What the passes test together are the standing rules. Assumes nothing.
+-- What the passes test together are the standing rules.
 use mathlib.Core.Path.{sym, subst}
 use mathlib.Core.Logic.{inl, inr, ⊎-elim}
 use mathlib.Core.Bool.{Bool, true, false, cond}
@@ -9,13 +9,13 @@ use Rattle.rules.specs.Table.{Table, taskOf, semaphoreOf, ableQueue, firstIn, i
 use Rattle.rules.specs.Chain.{Fresh}
 use Rattle.rules.specs.Afresh.{fresh-is, fresh-one}
 use Rattle.rules.specs.Move.{next, baseOf, freshIn}
-use Rattle.rules.specs.Sound.{Each, Shaped, SemaphoreRight, WorkedOut, RunsRight, Sound, isWorked, isSound}
+use Rattle.rules.specs.Sound.{Each, Shaped, SoundSemaphore, WorkedOut, SoundRuns, Sound, isWorkedOut, isSound}
 use Rattle.rules.specs.Decides.{Decides, equals, at-most, itself, last, each-one}
 use Rattle.rules.specs.Tested.{ends, sound}
 use Rattle.sound.specs.Tests.{by-cases, always, never}
 use Rattle.sound.specs.Tasks.{TaskPassed}
 use Rattle.sound.specs.Objects.{MutexPassed}
-use Rattle.sound.specs.Queues.{Queued}
+use Rattle.sound.specs.Queues.{QueuesPassed}
 
 -- ---- lock depth and running task
 
@@ -31,7 +31,7 @@ isRunRight t =
 -- The lock depth, and who runs.
 pub record RunRight (t : Table) : Type 0 where
   pub depth : t .depth ≤ mostNested
-  pub runs : RunsRight t
+  pub runs : SoundRuns t
 
 pub run-right : (t : Table) → Decides (isRunRight t) (RunRight t)
 unfolding isRunRight
@@ -48,8 +48,8 @@ run-right t =
 
 -- ---- working priorities
 
-pub works-right : (t : Table) → Shaped t → Decides (isWorked t) (Each taskCount (λ i. Fresh taskCount (next t) (baseOf t) i (taskOf t i .work)))
-unfolding isWorked freshIn
+pub works-right : (t : Table) → Shaped t → Decides (isWorkedOut t) (Each taskCount (λ i. Fresh taskCount (next t) (baseOf t) i (taskOf t i .work)))
+unfolding isWorkedOut freshIn
 works-right t s =
     each-one λ i l.
     last (λ f. fresh-one f (fresh-is (baseOf t) (ends t s) l)) equals λ e.
@@ -59,9 +59,9 @@ works-right t s =
 
 pub record Parts (t : Table) : Type 0 where
   pub tasks : Each taskCount (λ i. TaskPassed t i (taskOf t i))
-  pub semaphores : Each semaphoreCount (λ s. SemaphoreRight (semaphoreOf t s))
+  pub semaphores : Each semaphoreCount (λ s. SoundSemaphore (semaphoreOf t s))
   pub mutexes : Each mutexCount (MutexPassed t)
-  pub queued : Queued t
+  pub queued : QueuesPassed t
   pub worked : WorkedOut t
   pub run : RunRight t
 

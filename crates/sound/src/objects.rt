@@ -1,12 +1,12 @@
 // The semaphores and the mutexes: their fields, and who holds.
 ghost use mathlib.Core.Path.{_≡_};
 ghost use Prim.Native.Nat.{_<_};
-ghost use Rattle.rules.specs.Sound.{each, isSemaphoreRight};
+ghost use Rattle.rules.specs.Sound.{each, isSoundSemaphore};
 ghost use Rattle.table.specs.Image.{Image, view};
 ghost use Rattle.sound.specs.Objects.{semaphoreRight, isUnheldRight, isHeldBy, mutexRight};
 
 fn is_semaphore_right(x: rules::Semaphore) -> bool
-    ensures { λ r. ⌜ r ≡ isSemaphoreRight x ⌝ }
+    ensures { λ r. ⌜ r ≡ isSoundSemaphore x ⌝ }
 {
     if x.used == 0 {
         return x.count == 0;

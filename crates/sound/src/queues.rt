@@ -9,7 +9,7 @@ ghost use Rattle.rules.specs.Decides.{Decides};
 ghost use Rattle.table.specs.Image.{Image, view};
 ghost use Rattle.sound.specs.Tasks.{Spotted};
 ghost use Rattle.sound.specs.Lines.{taken, filled, mayStand, LinePassed};
-ghost use Rattle.sound.specs.Queues.{Queued};
+ghost use Rattle.sound.specs.Queues.{QueuesPassed};
 
 // 1 for a slot that is not free.
 fn is_taken(v: u8) -> u8
@@ -87,7 +87,7 @@ fn are_all_met(spots: &[u8]) -> bool
 
 pub fn are_queues_right(s: &[u8], spots: &mut [u8]) -> bool
     requires { ⌜ Image (now s) × (length (now spots) ≡ 32) × Spotted (view (now s)) (now spots) ⌝ }
-    ensures { λ r. ⌜ Decides r (Queued (view (now (s .entry)))) ⌝ }
+    ensures { λ r. ⌜ Decides r (QueuesPassed (view (now (s .entry)))) ⌝ }
 {
     let mut q = 0;
     while q < 33 {

@@ -1,4 +1,4 @@
--- A change of some numbers of a list, and what it leaves: the parts, words and entries of an array apart from it. Assumes nothing.
+-- A change of some numbers of a list, and what it leaves: the parts, words and entries of an array apart from it.
 use mathlib.Core.Path.{_≡_, sym, ap, ap₂, _∙_}
 use mathlib.Core.Logic.{_⊎_, inl, inr, ⊎-elim}
 use mathlib.Core.List.{List, _∷_, _++_}

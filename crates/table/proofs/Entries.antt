@@ -1,4 +1,4 @@
--- The entries of the table: what is written, and what is read. Assumes nothing.
+-- The entries of the table: what is written, and what is read.
 use mathlib.Core.Path.{_≡_, sym, ap, _∙_}
 use mathlib.Core.List.{List, [], _∷_, _++_, append-nil}
 use Prim.Native.Nat.{ℕ, suc, _+_, _≤_, _<_}

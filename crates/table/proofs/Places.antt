@@ -1,4 +1,4 @@
--- How tasks change their places, in the image and in the table. Assumes nothing.
+-- How tasks change their places, in the image and in the table.
 use mathlib.Core.Path.{_≡_, refl, sym, ap, ap₂, subst, _∙_}
 use mathlib.Core.Bool.{Bool, true, false, _&&_}
 use mathlib.Core.List.{List, [], _∷_, map}
@@ -13,7 +13,8 @@ use borrow.Rule.Slice.PartMut.{putMid}
 use Rattle.queue.specs.Slots.{placeBehind, opened, behind, without}
 use Rattle.queue.specs.Lengths.{length-behind, length-without}
 use Rattle.rules.specs.declared.Task.{Task}
-use Rattle.rules.specs.Table.{Table, taskOf, queueOf, works, placeOf, firstIn, noTask, withTask, withQueue, withRunning, withWork, withLeft}
+use Rattle.rules.specs.Table.{Table, taskOf, queueOf, works, firstIn, noTask, withTask, withQueue, withRunning, withWork, withLeft}
+use Rattle.rules.specs.Family.{placeOf}
 use Rattle.rules.specs.Decides.{equals, itself, both}
 use Rattle.rules.specs.Move.{leave, join, stays, put, putWork, rotate, chosen}
 use Rattle.laws.specs.queues.Put.{put-in, put-moves, place-same}

@@ -1,4 +1,4 @@
--- How a store shows in the view: one law for each component that a change elsewhere leaves, and one for each setter. Assumes nothing.
+-- How a store shows in the view: one law for each component that a change elsewhere leaves, and one for each setter.
 use mathlib.Core.Path.{_≡_, refl, sym, ap, _∙_}
 use mathlib.Core.Logic.{_⊎_, inl, inr}
 use mathlib.Core.Bool.{Bool, true, false, cond, _&&_}

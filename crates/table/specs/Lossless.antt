@@ -1,4 +1,4 @@
--- The view shows every byte: images of bytes with the same view are the same. Assumes nothing.
+-- The view shows every byte: images of bytes with the same view are the same.
 use mathlib.Core.Path.{_≡_, refl, sym, ap, ap₂, subst, _∙_}
 use mathlib.Core.Logic.{⊎-elim}
 use mathlib.Core.List.{List, _∷_}

@@ -1,4 +1,4 @@
--- Laws of parts and of lists made by a rule. Assumes nothing.
+-- Laws of parts and of lists made by a rule.
 use mathlib.Core.Path.{_≡_, refl, ap, ap₂}
 use mathlib.Core.List.{List, _∷_}
 use Prim.Native.Nat.{ℕ, zero, suc, _+_, _≤_, _<_}

@@ -1,4 +1,4 @@
--- Where the lists stand that are joined in a row, and what each of their numbers is. Assumes nothing.
+-- Where the lists stand that are joined in a row, and what each of their numbers is.
 use mathlib.Core.Path.{_≡_, refl, sym, ap, subst, _∙_}
 use mathlib.Core.List.{List, [], _∷_, _++_, map, append-assoc}
 use Prim.Native.Nat.{ℕ, zero, suc, _+_, _*_, _<_}

@@ -1,4 +1,4 @@
--- What the view shows at each place, and that the view of every image has the paper's sizes. Assumes nothing.
+-- What the view shows at each place, and that the view of every image has the paper's sizes.
 use mathlib.Core.Path.{_≡_, refl, ap, _∙_}
 use mathlib.Core.List.{List, []}
 use Prim.Native.Nat.{ℕ, _<_}

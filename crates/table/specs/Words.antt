@@ -1,4 +1,4 @@
--- Words and cells: what is written shows. Assumes nothing.
+-- Words and cells: what is written shows.
 use mathlib.Core.Path.{_≡_, refl, sym, ap, ap₂, subst, _∙_}
 use mathlib.Core.List.{List, [], _∷_}
 use Prim.Native.Nat.{ℕ, zero, suc, _+_, _*_, _<_, _%_, _/_, _^_}

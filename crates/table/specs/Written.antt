@@ -1,4 +1,4 @@
--- The image of a table: every sound table has one, and only one. Assumes nothing.
+-- The image of a table: every sound table has one, and only one.
 use mathlib.Core.Path.{_≡_, refl, sym, ap, subst, _∙_}
 use mathlib.Core.Bool.{Bool, true, false, cond}
 use mathlib.Core.List.{List, [], _∷_, map}
@@ -13,7 +13,8 @@ use Rattle.rules.specs.declared.Semaphore.{Semaphore}
 use Rattle.rules.specs.declared.Mutex.{Mutex}
 use Rattle.rules.specs.Sizes.{taskCount, semaphoreCount, mutexCount, waitsSemaphore, waitsMutex}
 use Rattle.rules.specs.Table.{Table, taskOf, semaphoreOf, mutexOf, queueOf, queueCount, noTask, noSemaphore, noMutex, works}
-use Rattle.rules.specs.Sound.{Each, Shaped, objectsIn, marksIn, TaskInRange, Sound}
+use Rattle.rules.specs.Sound.{Each, Shaped, marksIn, TaskInRange, Sound}
+use Rattle.rules.specs.Family.{ofState, objectsIn}
 use Rattle.table.specs.Parts.{part, joined, wordAt, bytesOf}
 use Rattle.table.specs.Image.{Image, Fitting, stateAt, dueAt, cellAt, semaphoreAt, mutexAt, queueAt, tickAt, depthAt, runningAt, taskIn, taskCell, dueCell, taskAt, semaphoreIn, semaphoreCell, mutexIn, mutexCell, view}
 use Rattle.table.specs.Words.{word-back, task-back, semaphore-back, mutex-back}
@@ -81,7 +82,7 @@ cond-most true p q = p
 cond-most false p q = q
 
 few-objects : (state : ℕ) → objectsIn state ≤ 16
-unfolding objectsIn
+unfolding ofState
 few-objects state = cond-most (eqb state waitsSemaphore) (omega arith) (cond-most (eqb state waitsMutex) (omega arith) (omega arith))
 
 few-marks : (marked : ℕ) → marksIn marked ≤ 4294967296

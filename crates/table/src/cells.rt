@@ -4,6 +4,7 @@ ghost use mathlib.Core.List.{[], _∷_};
 ghost use Prim.Native.Nat.{_+_, _*_, _≤_, _<_};
 ghost use lib.ListN.{length};
 ghost use Rattle.rules.specs.Table.{noTask, taskOf, withWork, withTask, semaphoreOf, withSemaphore, mutexOf, withMutex, withTick, withDepth, withRunning};
+ghost use Rattle.rules.specs.Time.{callerOf};
 ghost use Rattle.table.specs.Parts.{wordAt, bytesOf};
 ghost use Rattle.table.specs.Image.{Image, view, taskIn, taskCell, semaphoreCell, mutexCell, Fitting};
 
@@ -278,6 +279,18 @@ pub fn get_running(s: &[u8]) -> u8
     ensures { λ r. ⌜ r ≡ view (now (s .entry)) .running ⌝ }
 {
     s[1701]
+}
+
+// The running task's number.
+pub fn caller_of(s: &[u8]) -> usize
+    requires { ⌜ Image (now s) ⌝ }
+    ensures { λ r. ⌜ (r ≡ callerOf (view (now (s .entry)))) × (r < 255) ⌝ }
+{
+    let v = get_running(s);
+    if v == 0 {
+        return 0;
+    }
+    v as usize - 1
 }
 
 pub fn set_running(s: &mut [u8], v: u8)

@@ -1,1 +1,2 @@
 mod Little
+mod Numbers

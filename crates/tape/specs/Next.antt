@@ -1,17 +1,17 @@
 -- What stands at the start of a tape.
 use mathlib.Core.Bool.{Bool, true, false, cond}
-use mathlib.Core.Path.{_≡_, refl, sym, ap, _∙_}
+use mathlib.Core.Logic.{_≢_}
+use mathlib.Core.Path.{_≡_, refl, sym, _∙_}
 use mathlib.Core.List.{List, [], _∷_}
 use Prim.Native.Nat.{ℕ, _+_, _-_, _≤_, _<_}
-use native.Mathlib.Nat.{zero-add, add-assoc}
 use native.Mathlib.Omega.{arith}
 use lib.Dec.{ltb}
-use lib.ListN.{length, getD, take, drop}
+use lib.ListN.{length, getD, drop}
 use lib.Seq.{drop-drop}
 use borrow.Author.Tests.{lt-ltb, le-ltb}
-use Rattle.kinds.specs.Body.{numbers-at, sum-next}
-use Rattle.rules.specs.Port.{plainKind, ofKind, reading}
-use Rattle.rules.specs.Tape.{little, sum, widths, bodyLength, callIn}
+use Rattle.rules.specs.Kinds.{kinds, widths, plainKind, ofKind, reading}
+use Rattle.rules.specs.KindLaws.{told-of, Same, reading-same}
+use Rattle.rules.specs.Tape.{numbers, bodyLength, callIn}
 use Rattle.rules.specs.declared.Reading.{Reading}
 use Rattle.rules.specs.declared.Reading.the-variants.{Says, Unknown}
 use Rattle.tape.specs.declared.Next.{Next}
@@ -47,34 +47,24 @@ next-end (kind ∷ body) e = let z : _≡_ {A = ℕ} 0 1 = omega arith in cc
 
 -- ---- a cut body: which kinds there are does not depend on the numbers
 
-next-either : (b : Bool) (x y : Reading) (cut : Bool) (n : ℕ) → nextOf (cond b x y) cut n ≡ cond b (nextOf x cut n) (nextOf y cut n)
-next-either true x y cut n = refl
-next-either false x y cut n = refl
-
-pub next-kind : (k a b c d e f n m : ℕ) (i : Bool) → nextOf (ofKind k a b c i) true n ≡ nextOf (ofKind k d e f i) true m
+pub next-kind : (k : ℕ) (l m : List ℕ) (n n′ : ℕ) (i : Bool) → nextOf (ofKind k l i) true n ≡ nextOf (ofKind k m i) true n′
 unfolding ofKind nextOf
-next-kind k a b c d e f n m i = simp next-either
+next-kind k l m n n′ i = told-of (λ r. nextOf r true n) kinds k _ _ ∙ sym (told-of (λ r. nextOf r true n′) kinds k _ _)
 
-pub next-cut : (l : List ℕ) → 0 < length l → length l - 1 < bodyLength (getD l 0 0) → nextOf (reading (getD l 0 0) 0 0 0) true 0 ≡ nextIn l
+pub next-cut : (l m : List ℕ) {n : ℕ} → length l ≢ 0 → n ≡ bodyLength (getD l 0 0) → length l < 1 + n → nextOf (reading (getD l 0 0) m) true 0 ≡ nextIn l
 unfolding nextIn callIn reading
-next-cut [] h short = let z : _≡_ {A = ℕ} 0 1 = omega arith in cc
-next-cut (kind ∷ body) h short = let s : length body < bodyLength kind = omega arith in rw (lt-ltb (length body) (bodyLength kind) s) (next-kind _ _ _ _ _ _ _ _ _ _)
+next-cut [] m h e short = absurd (h refl)
+next-cut (kind ∷ body) m h e short = let s : length body < bodyLength kind = omega arith in rw (lt-ltb (length body) (bodyLength kind) s) (next-kind _ _ _ _ _ _)
 
 -- ---- a whole body
 
 pub next-behind : (kind : ℕ) (body : List ℕ) (n : ℕ) → drop (1 + n) (kind ∷ body) ≡ drop n body
 next-behind kind body n = sym (drop-drop n 1 (kind ∷ body))
 
-pub next-whole : (l : List ℕ) → 0 < length l → bodyLength (getD l 0 0) ≤ length l - 1
-    → let w = widths (plainKind (getD l 0 0)) in
-    nextOf
-    (reading (getD l 0 0) (little (take (getD w 0 0) (drop 1 l))) (little (take (getD w 1 0) (drop (1 + getD w 0 0) l))) (little (take (getD w 2 0) (drop (1 + getD w 0 0 + getD w 1 0) l))))
-    false (1 + bodyLength (getD l 0 0)) ≡ nextIn l
-unfolding nextIn callIn sum
-next-whole [] h fits = let z : _≡_ {A = ℕ} 0 1 = omega arith in cc
-next-whole (kind ∷ body) h fits =
+pub next-whole : (l m : List ℕ) {k n : ℕ} → length l ≢ 0 → k ≡ plainKind (getD l 0 0) → n ≡ bodyLength (getD l 0 0) → 1 + n ≤ length l
+    → Same m (numbers (widths k) (drop 1 l)) → nextOf (reading (getD l 0 0) m) false (1 + n) ≡ nextIn l
+unfolding nextIn callIn
+next-whole [] m h p e fits same = absurd (h refl)
+next-whole (kind ∷ body) m h p e fits same =
     let f : bodyLength kind ≤ length body = omega arith in
-    let w = widths (plainKind kind) in
-    let second : sum (take 1 w) ≡ getD w 0 0 = sum-next w 0 ∙ zero-add _ in
-    let third : sum (take 2 w) ≡ getD w 0 0 + getD w 1 0 = sum-next w 1 ∙ ap (λ n. n + getD w 1 0) second in
-    rw (le-ltb (length body) (bodyLength kind) f, numbers-at w 0 body, numbers-at w 1 body, numbers-at w 2 body, second, third, add-assoc, next-behind kind body (getD w 0 0), next-behind kind body (getD w 0 0 + getD w 1 0))
+    rw (e, le-ltb (length body) (bodyLength kind) f, ← p, reading-same kind m (numbers (widths _) body) same)

@@ -9,7 +9,7 @@ use lib.ListN.{length, drop, length-drop, length-append}
 use lib.Seq.{drop-append-le}
 use borrow.Author.Tests.{ltb-true, ltb-false, le-ltb}
 use Rattle.kinds.specs.Body.{call-append}
-use Rattle.rules.specs.Port.{reading}
+use Rattle.rules.specs.Kinds.{reading}
 use Rattle.rules.specs.Table.{Table}
 use Rattle.rules.specs.Step.{Outcome}
 use Rattle.rules.specs.Tape.{line, badLine, bodyLength, callIn, printed, printedOf}
@@ -57,7 +57,7 @@ whole-more (kind ∷ body) more e =
 pub noKind-more : (l more : List ℕ) → nextIn l ≡ NoKind → nextIn (l ++ more) ≡ NoKind
 unfolding nextIn callIn reading
 noKind-more [] more e = cc
-noKind-more (kind ∷ body) more e = noKind-of _ true _ 0 _ (next-kind _ _ _ _ _ _ _ _ _ _ ∙ noKind-of _ _ true _ 0 e)
+noKind-more (kind ∷ body) more e = noKind-of _ true _ 0 _ (next-kind _ _ _ _ _ _ ∙ noKind-of _ _ true _ 0 e)
 
 never-end : (r : Reading) (cut : Bool) (n : ℕ) → nextOf r cut n ≡ End → _≡_ {A = ℕ} 0 1
 unfolding nextOf

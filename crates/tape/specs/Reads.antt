@@ -1,4 +1,4 @@
--- A tape that comes in reads, each played behind what the last left over, prints what the whole tape prints. Assumes nothing.
+-- A tape that comes in reads, each played behind what the last left over, prints what the whole tape prints.
 use mathlib.Core.Bool.{Bool, true, false, cond, true≢false}
 use mathlib.Core.Path.{_≡_, refl, sym, ap, _∙_}
 use mathlib.Core.List.{List, [], _∷_, _++_, flatten, append-assoc, append-nil}

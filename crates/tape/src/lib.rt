@@ -4,7 +4,9 @@ ghost use mathlib.Core.Bool.{true, false};
 ghost use mathlib.Core.List.{[], _∷_};
 ghost use Prim.Native.Nat.{_+_, _-_, _≤_, _<_};
 ghost use lib.ListN.{length, take, drop};
-ghost use Rattle.rules.specs.Tape.{little, decimal, runner};
+ghost use Rattle.rules.specs.Kinds.{widths};
+ghost use Rattle.rules.specs.KindLaws.{Same};
+ghost use Rattle.rules.specs.Tape.{little, sum, numbers, decimal, runner};
 ghost use Rattle.tape.specs.Next.{nextOf, nextIn};
 ghost use Rattle.tape.specs.Line.{Wrote, lineOf, lineIn, badIn};
 
@@ -28,6 +30,25 @@ fn little_at(tape: &[u8], at: usize, w: usize) -> u32
         n = n * 256 + tape[at + left] as u32;
     }
     n
+}
+
+// The numbers of the body behind a kind byte, each behind those before it; 0 for those that the kind does not have.
+fn numbers_in(tape: &[u8], k: u8) -> kinds::Numbers
+    requires { ⌜ 1 + sum (widths k) ≤ length (now tape) ⌝ }
+    ensures { λ r. ⌜ Same r (numbers (widths k) (drop 1 (now (tape .entry)))) ⌝ }
+{
+    let mut found: kinds::Numbers = [0; 6];
+    let mut left = kinds::widths_of(k);
+    let mut at = 1;
+    let mut i = 0;
+    while i < 6 {
+        let width = (left % 16) as usize;
+        found[i] = little_at(tape, at, width);
+        left /= 16;
+        at += width;
+        i += 1;
+    }
+    found
 }
 
 // What a reading is where its body is there.
@@ -57,16 +78,15 @@ pub fn read_call(tape: &[u8]) -> Next
         return Next::End;
     }
     let kind = tape[0];
-    let w = kinds::widths_of(kinds::plain_kind(kind));
-    let n = 1 + w.a + w.b + w.c;
+    let n = 1 + kinds::body_length(kind);
     if tape.len() < n {
         // Whether the list has a kind does not depend on the numbers.
-        return cut_call(kinds::reading_of(kind, 0, 0, 0));
+        return cut_call(kinds::reading_of(kind, [0; 6]));
     }
-    let a = little_at(tape, 1, w.a);
-    let b = little_at(tape, 1 + w.a, w.b);
-    let c = little_at(tape, 1 + w.a + w.b, w.c);
-    whole_call(kinds::reading_of(kind, a, b, c), n)
+    whole_call(
+        kinds::reading_of(kind, numbers_in(tape, kinds::plain_kind(kind))),
+        n,
+    )
 }
 
 fn write_byte(out: &mut [u8], at: usize, b: u8) -> usize

@@ -1,201 +1,53 @@
-use mathlib.Core.Path.{sym, ap}
-use Rattle.rules.specs.Step.{forInterrupts}
+use mathlib.Core.Bool.{false}
+use mathlib.Core.Path.{_≡_, refl, sym, ap}
+use Prim.Native.Nat.{ℕ}
+use mathlib.Core.List.{List, [], _∷_}
+use denote.Enum.Declared as Declared
+use types.Run.{OneOf, miss}
 use borrow.Author.Needs.{needs}
+use Rattle.rules.proofs.Call as Call′
+use Rattle.rules.specs.declared.Call.{Call}
+use Rattle.rules.specs.declared.Call.the-variants.{TaskCreate, TaskDelete, ChangePriority, Suspend, Resume, Yield, Delay, DelayResume, Lock, Unlock, Tick, SemaphoreCreate, SemaphoreDelete, SemaphoreWait, SemaphorePost, SemaphoreAbort, MutexCreate, MutexDelete, MutexWait, MutexPost, MutexAbort}
+use Rattle.rules.specs.Kinds.{toldIn, spelled}
+use Rattle.rules.specs.Step.{forInterrupts}
 use Rattle.calls.proofs.is_for_interrupts.Statement.{statement}
 use Rattle.calls.proofs.is_for_interrupts.Tie as tie
-use Rattle.calls.proofs.is_for_interrupts.Reads as reads
-use Rattle.calls.proofs.is_for_interrupts.Lts as lts
 
-enum-told : tie.Need-enum-told
-enum-told c = search needs
+-- The numbers of the variants of `Call`, but for Tick and SemaphorePost.
+abbrev others : List ℕ
+others = 0 ∷ 1 ∷ 2 ∷ 3 ∷ 4 ∷ 5 ∷ 6 ∷ 7 ∷ 8 ∷ 9 ∷ 11 ∷ 12 ∷ 13 ∷ 15 ∷ 16 ∷ 17 ∷ 18 ∷ 19 ∷ 20 ∷ []
 
-enum-told-2 : tie.Need-enum-told-2
-enum-told-2 c = search needs
-
-enum-told-3 : tie.Need-enum-told-3
-enum-told-3 c = search needs
-
-enum-told-4 : tie.Need-enum-told-4
-enum-told-4 c = search needs
-
-enum-told-5 : tie.Need-enum-told-5
-enum-told-5 c = search needs
-
-enum-told-6 : tie.Need-enum-told-6
-enum-told-6 c = search needs
-
-enum-told-7 : tie.Need-enum-told-7
-enum-told-7 c = search needs
-
-enum-told-8 : tie.Need-enum-told-8
-enum-told-8 c = search needs
-
-enum-told-9 : tie.Need-enum-told-9
-enum-told-9 c = search needs
-
-enum-told-10 : tie.Need-enum-told-10
-enum-told-10 c = search needs
-
-enum-told-11 : tie.Need-enum-told-11
-enum-told-11 c = search needs
-
-enum-told-12 : tie.Need-enum-told-12
-enum-told-12 c = search needs
-
-enum-told-13 : tie.Need-enum-told-13
-enum-told-13 c = search needs
-
-enum-told-14 : tie.Need-enum-told-14
-enum-told-14 c = search needs
-
-enum-told-15 : tie.Need-enum-told-15
-enum-told-15 c = search needs
-
-enum-told-16 : tie.Need-enum-told-16
-enum-told-16 c = search needs
-
-enum-told-17 : tie.Need-enum-told-17
-enum-told-17 c = search needs
-
-enum-told-18 : tie.Need-enum-told-18
-enum-told-18 c = search needs
-
-enum-told-19 : tie.Need-enum-told-19
-enum-told-19 c = search needs
-
-enum-told-20 : tie.Need-enum-told-20
-enum-told-20 c = search needs
-
-enum-told-21 : tie.Need-enum-told-21
-enum-told-21 c = search needs
-
-returns : tie.Need-returns
-unfolding forInterrupts
-returns c = sym (ap forInterrupts (c .enum-told .given .1))
-
-returns-2 : tie.Need-returns-2
-unfolding forInterrupts
-returns-2 c = sym (ap forInterrupts (c .enum-told2 .given .1))
-
-returns-3 : tie.Need-returns-3
-unfolding forInterrupts
-returns-3 c = sym (ap forInterrupts (c .enum-told3 .given .1))
-
-returns-4 : tie.Need-returns-4
-unfolding forInterrupts
-returns-4 c = sym (ap forInterrupts (c .enum-told4 .given .1))
-
-returns-5 : tie.Need-returns-5
-unfolding forInterrupts
-returns-5 c = sym (ap forInterrupts (c .enum-told5 .given .1))
-
-returns-6 : tie.Need-returns-6
-unfolding forInterrupts
-returns-6 c = sym (ap forInterrupts (c .enum-told6 .given .1))
-
-returns-7 : tie.Need-returns-7
-unfolding forInterrupts
-returns-7 c = sym (ap forInterrupts (c .enum-told7 .given .1))
-
-returns-8 : tie.Need-returns-8
-unfolding forInterrupts
-returns-8 c = sym (ap forInterrupts (c .enum-told8 .given .1))
-
-returns-9 : tie.Need-returns-9
-unfolding forInterrupts
-returns-9 c = sym (ap forInterrupts (c .enum-told9 .given .1))
-
-returns-10 : tie.Need-returns-10
-unfolding forInterrupts
-returns-10 c = sym (ap forInterrupts (c .enum-told10 .given .1))
-
-returns-11 : tie.Need-returns-11
-unfolding forInterrupts
-returns-11 c = sym (ap forInterrupts (c .enum-told11 .given .1))
-
-returns-12 : tie.Need-returns-12
-unfolding forInterrupts
-returns-12 c = sym (ap forInterrupts (c .enum-told12 .given .1))
-
-returns-13 : tie.Need-returns-13
-unfolding forInterrupts
-returns-13 c = sym (ap forInterrupts (c .enum-told13 .given .1))
-
-returns-14 : tie.Need-returns-14
-unfolding forInterrupts
-returns-14 c = sym (ap forInterrupts (c .enum-told14 .given .1))
-
-returns-15 : tie.Need-returns-15
-unfolding forInterrupts
-returns-15 c = sym (ap forInterrupts (c .enum-told15 .given .1))
-
-returns-16 : tie.Need-returns-16
-unfolding forInterrupts
-returns-16 c = sym (ap forInterrupts (c .enum-told16 .given .1))
-
-returns-17 : tie.Need-returns-17
-unfolding forInterrupts
-returns-17 c = sym (ap forInterrupts (c .enum-told17 .given .1))
-
-returns-18 : tie.Need-returns-18
-unfolding forInterrupts
-returns-18 c = sym (ap forInterrupts (c .enum-told18 .given .1))
-
-returns-19 : tie.Need-returns-19
-unfolding forInterrupts
-returns-19 c = sym (ap forInterrupts (c .enum-told19 .given .1))
-
-returns-20 : tie.Need-returns-20
-unfolding forInterrupts
-returns-20 c = sym (ap forInterrupts (c .enum-told20 .given .1))
-
-returns-21 : tie.Need-returns-21
-unfolding forInterrupts
-returns-21 c = sym (ap forInterrupts (c .enum-told21 .given .1))
+other : (c : Call) → OneOf others (Declared.tagOf Call′.the-type c) → false ≡ forInterrupts c
+unfolding toldIn spelled forInterrupts
+other (TaskCreate a b c) h = refl
+other (TaskDelete a) h = refl
+other (ChangePriority a b) h = refl
+other (Suspend a) h = refl
+other (Resume a) h = refl
+other Yield h = refl
+other (Delay a) h = refl
+other (DelayResume a) h = refl
+other Lock h = refl
+other Unlock h = refl
+other Tick h = absurd (miss others 10 tt h)
+other (SemaphoreCreate a b) h = refl
+other (SemaphoreDelete a b) h = refl
+other (SemaphoreWait a b c) h = refl
+other (SemaphorePost a) h = absurd (miss others 14 tt h)
+other (SemaphoreAbort a) h = refl
+other (MutexCreate a) h = refl
+other (MutexDelete a b) h = refl
+other (MutexWait a b c) h = refl
+other (MutexPost a) h = refl
+other (MutexAbort a) h = refl
 
 pub is-for-interrupts-spec : {M : Type 1} → statement M
+unfolding toldIn spelled forInterrupts
 is-for-interrupts-spec =
     tie.close
     (tie.spec
-    enum-told
-    enum-told-2
-    enum-told-3
-    enum-told-4
-    enum-told-5
-    enum-told-6
-    enum-told-7
-    enum-told-8
-    enum-told-9
-    enum-told-10
-    enum-told-11
-    enum-told-12
-    enum-told-13
-    enum-told-14
-    enum-told-15
-    enum-told-16
-    enum-told-17
-    enum-told-18
-    enum-told-19
-    enum-told-20
-    enum-told-21
-    returns
-    returns-2
-    returns-3
-    returns-4
-    returns-5
-    returns-6
-    returns-7
-    returns-8
-    returns-9
-    returns-10
-    returns-11
-    returns-12
-    returns-13
-    returns-14
-    returns-15
-    returns-16
-    returns-17
-    returns-18
-    returns-19
-    returns-20
-    returns-21)
+    (λ c. search needs)
+    (λ c. search needs)
+    (λ c. sym (ap forInterrupts (c .enum-told .given .1)))
+    (λ c. sym (ap forInterrupts (c .enum-told2 .given .1)))
+    (λ c. other (c .before .args .c) (c .match .keys3)))

@@ -6,22 +6,12 @@ use Rattle.table.specs.Image.{view}
 use Rattle.chain.specs.Carry.{Carrying, carrying-start, carrying-end, carrying-on, above, above-set}
 use Rattle.chain.proofs.carry.Statement.{statement}
 use Rattle.chain.proofs.carry.Tie as tie
-use Rattle.chain.proofs.carry.Reads as reads
-use Rattle.chain.proofs.carry.Lts as lts
-use Rattle.chain.proofs.base_of.Reads as base-of-reads
-use Rattle.chain.proofs.next_of.Reads as next-of-reads
 
 abbrev Inv-loop : tie.InvT-loop
 Inv-loop s given₀ i base j₀ given j = Carrying 32 (next (view s)) (baseOf (view s)) (i + 1) base j given
 
 abbrev μ-loop : tie.MeasureT-loop
 μ-loop s given₀ i base j₀ given j = above base given
-
-base-of-requires : tie.Need-base-of-requires Inv-loop μ-loop
-base-of-requires c κs = search needs
-
-next-of-requires : tie.Need-next-of-requires Inv-loop μ-loop
-next-of-requires c κs = search needs
 
 loop-holds : tie.Need-loop-holds Inv-loop μ-loop
 loop-holds c = carrying-start (omega arith) (c .before .base-of .ensures) (c .next-of .ensures) (c .before .before .before .before .pre .2)
@@ -35,9 +25,6 @@ same-length c = omega (arith, c .before .before .before .loop .inv .size, c .bef
 returns : tie.Need-returns Inv-loop μ-loop
 returns c = carrying-end (c .before .before .before .loop .inv) (λ h. omega arith)
 
-base-of-requires-2 : tie.Need-base-of-requires-2 Inv-loop μ-loop
-base-of-requires-2 c κs = search needs
-
 same-length-2 : tie.Need-same-length-2 Inv-loop μ-loop
 same-length-2 c = omega (arith, c .before .before .before .before .before .loop .inv .size, c .before .before .before .before .before .before .before .before .before .before .pre .2 .size)
 
@@ -46,9 +33,6 @@ returns-2 c = carrying-end (c .before .before .before .before .before .loop .inv
 
 slice-write-given : tie.Need-slice-write-given Inv-loop μ-loop
 slice-write-given c = omega (arith, c .before .before .before .before .before .loop .inv .size)
-
-next-of-requires-2 : tie.Need-next-of-requires-2 Inv-loop μ-loop
-next-of-requires-2 c κs = search needs
 
 loop-less : tie.Need-loop-less Inv-loop μ-loop
 loop-less c =
@@ -70,17 +54,17 @@ carry-spec =
     (tie.spec
     Inv-loop
     μ-loop
-    base-of-requires
-    next-of-requires
+    (λ c κs. search needs)
+    (λ c κs. search needs)
     loop-holds
     slice-read-v
     same-length
     returns
-    base-of-requires-2
+    (λ c κs. search needs)
     same-length-2
     returns-2
     slice-write-given
-    next-of-requires-2
+    (λ c κs. search needs)
     loop-less
     loop-again
     same-length-3

@@ -7,18 +7,14 @@ use Rattle.rules.specs.Move.{next, baseOf}
 use Rattle.table.specs.Image.{view}
 use Rattle.table.specs.Shape.{view-shaped}
 use Rattle.table.specs.Written.{view-fits}
-use Rattle.chain.specs.Carry.{Settled, settled-none}
+use Rattle.chain.specs.Carry.{HadTurns, settled-none}
 use Rattle.chain.specs.Given.{settled-given}
 use Rattle.chain.specs.States.{states-past}
 use Rattle.chain.proofs.carry_all.Statement.{statement}
 use Rattle.chain.proofs.carry_all.Tie as tie
-use Rattle.chain.proofs.carry_all.Reads as reads
-use Rattle.chain.proofs.carry_all.Lts as lts
-use Rattle.chain.proofs.carry_eight.Reads as carry-eight-reads
-use Rattle.chain.proofs.states_of.Reads as states-of-reads
 
 abbrev Inv-loop : tie.InvT-loop
-Inv-loop s given₀ a₀ given a = (a ≤ 32) × (a % 8 ≡ 0) × Settled 32 (next (view s)) (baseOf (view s)) a given
+Inv-loop s given₀ a₀ given a = (a ≤ 32) × (a % 8 ≡ 0) × HadTurns 32 (next (view s)) (baseOf (view s)) a given
 
 abbrev μ-loop : tie.MeasureT-loop
 μ-loop s given₀ a₀ given a = 32 - a
@@ -28,19 +24,13 @@ loop-holds c =
     let l = c .before .before .args .s .now in
     let none = c .before .before .pre .1 in
     let fits = view-fits l (c .before .before .pre .0) (λ j. omega (arith, c .before .shared-slice-known .given j)) in
-    (omega arith, omega arith, settled-none (none .size) (λ i h. omega (arith, none .at i h, fits .tasks i h .base)))
+    (omega arith, omega arith, settled-none (none .size) (none .at) (λ i h. omega (arith, fits .tasks i h .base)))
 
 states-of-requires : tie.Need-states-of-requires Inv-loop μ-loop
 states-of-requires c κs = (omega arith, c .before .before .before .before .pre .0)
 
 carry-eight-requires : tie.Need-carry-eight-requires Inv-loop μ-loop
 carry-eight-requires c κs = (omega arith, c .before .before .before .before .before .before .before .pre .0, c .before .before .before .before .loop .inv .2)
-
-add-a : tie.Need-add-a Inv-loop μ-loop
-add-a c = search needs
-
-loop-less : tie.Need-loop-less Inv-loop μ-loop
-loop-less c = omega arith
 
 loop-again : tie.Need-loop-again Inv-loop μ-loop
 loop-again c =
@@ -60,8 +50,10 @@ same-length c = omega (arith, c .before .loop .inv .2 .size, c .before .before .
 returns : tie.Need-returns Inv-loop μ-loop
 returns c =
     let l = c .before .before .before .before .args .s .now in
+    let image = c .before .before .before .before .pre .0 in
+    let fits = view-fits l image (λ j. omega (arith, c .before .before .before .shared-slice-known .given j)) in
     let e : c .before .loop .a ≡ 32 = omega arith in
-    settled-given (view l) _ (view-shaped l (c .before .before .before .before .pre .0)) (rw e at (c .before .loop .inv .2))
+    settled-given (view l) _ (view-shaped l image) (λ i h. omega (arith, fits .tasks i h .base)) (rw e at (c .before .loop .inv .2))
 
 pub carry-all-spec : {M : Type 1} → statement M
 carry-all-spec =
@@ -72,8 +64,8 @@ carry-all-spec =
     loop-holds
     states-of-requires
     carry-eight-requires
-    add-a
-    loop-less
+    (λ c. search needs)
+    (λ c. omega arith)
     loop-again
     same-length
     returns)

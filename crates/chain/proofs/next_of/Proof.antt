@@ -1,25 +1,11 @@
 use mathlib.Core.Path.{sym, ap, _∙_}
 use Rattle.rules.specs.declared.Task.{Task}
-use Rattle.rules.specs.Move.{holderOf}
-use Rattle.rules.specs.Table.{taskOf}
+use Rattle.rules.specs.Table.{taskOf, holderOf}
 use Rattle.laws.specs.chains.Graph.{next-is, waits-one, waits-none}
 use Rattle.table.specs.Image.{view}
 use borrow.Author.Needs.{needs}
 use Rattle.chain.proofs.next_of.Statement.{statement}
 use Rattle.chain.proofs.next_of.Tie as tie
-use Rattle.chain.proofs.next_of.Reads as reads
-use Rattle.chain.proofs.next_of.Lts as lts
-use Rattle.chain.proofs.holder_of.Reads as holder-of-reads
-use Rattle.table.proofs.cells.task_at.Reads as task-at-reads
-
-task-at-requires : tie.Need-task-at-requires
-task-at-requires c κs = search needs
-
-cast-holder-of : tie.Need-cast-holder-of
-cast-holder-of c = search needs
-
-holder-of-requires : tie.Need-holder-of-requires
-holder-of-requires c κs = search needs
 
 returns : tie.Need-returns
 returns c =
@@ -37,4 +23,4 @@ returns-2 c =
 
 pub next-of-spec : {M : Type 1} → statement M
 next-of-spec =
-    tie.close (tie.spec task-at-requires cast-holder-of holder-of-requires returns returns-2)
+    tie.close (tie.spec (λ c κs. search needs) (λ c. search needs) (λ c κs. search needs) returns returns-2)

@@ -3,9 +3,6 @@ use lib.ListN.{length}
 use borrow.Author.Needs.{needs}
 use Rattle.cues.proofs.play_all.Statement.{statement}
 use Rattle.cues.proofs.play_all.Tie as tie
-use Rattle.cues.proofs.play_all.Reads as reads
-use Rattle.cues.proofs.play_all.Lts as lts
-use Rattle.cues.proofs.play_first.Reads as play-first-reads
 
 abbrev Inv-loop : tie.InvT-loop
 Inv-loop cues₀ levels printed₀ turns₀ cues printed turns = length cues ≡ length cues₀
@@ -13,29 +10,8 @@ Inv-loop cues₀ levels printed₀ turns₀ cues printed turns = length cues ≡
 abbrev μ-loop : tie.MeasureT-loop
 μ-loop cues₀ levels printed₀ turns₀ cues printed turns = turns
 
-loop-holds : tie.Need-loop-holds Inv-loop μ-loop
-loop-holds c = search needs
-
-play-first-requires : tie.Need-play-first-requires Inv-loop μ-loop
-play-first-requires c κs = search needs
-
-same-length : tie.Need-same-length Inv-loop μ-loop
-same-length c = search needs
-
 returns : tie.Need-returns Inv-loop μ-loop
 returns c = search needs
-
-sub-turns : tie.Need-sub-turns Inv-loop μ-loop
-sub-turns c = search needs
-
-loop-less : tie.Need-loop-less Inv-loop μ-loop
-loop-less c = search needs
-
-loop-again : tie.Need-loop-again Inv-loop μ-loop
-loop-again c = search needs
-
-same-length-2 : tie.Need-same-length-2 Inv-loop μ-loop
-same-length-2 c = search needs
 
 returns-2 : tie.Need-returns-2 Inv-loop μ-loop
 returns-2 c = search needs
@@ -46,12 +22,12 @@ play-all-spec =
     (tie.spec
     Inv-loop
     μ-loop
-    loop-holds
-    play-first-requires
-    same-length
+    (λ c. search needs)
+    (λ c κs. search needs)
+    (λ c. search needs)
     returns
-    sub-turns
-    loop-less
-    loop-again
-    same-length-2
+    (λ c. search needs)
+    (λ c. search needs)
+    (λ c. search needs)
+    (λ c. search needs)
     returns-2)

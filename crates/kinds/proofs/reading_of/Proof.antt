@@ -1,21 +1,16 @@
-use Rattle.rules.specs.Port.{reading}
 use borrow.Author.Needs.{needs}
+use Rattle.kinds.specs.Row.{row-says}
 use Rattle.kinds.proofs.reading_of.Statement.{statement}
 use Rattle.kinds.proofs.reading_of.Tie as tie
 
-plain-kind-requires : tie.Need-plain-kind-requires
-plain-kind-requires c κs = search needs
-
-is-interrupt-requires : tie.Need-is-interrupt-requires
-is-interrupt-requires c κs = search needs
-
-of-kind-requires : tie.Need-of-kind-requires
-of-kind-requires c κs = search needs
-
-returns : tie.Need-returns
-unfolding reading
-returns c = cc
-
 pub reading-of-spec : {M : Type 1} → statement M
 reading-of-spec =
-    tie.close (tie.spec plain-kind-requires is-interrupt-requires of-kind-requires returns)
+    tie.close
+    (tie.spec
+    (λ c κs. search needs)
+    (λ c κs. search needs)
+    (λ c κs. search needs)
+    (λ c. search needs)
+    (λ c. search needs)
+    (λ c. let b = c .before .before .before in row-says _ _ (b .before .before .is-interrupt .ensures) (b .before .plain-kind .ensures) (b .row-of .ensures) (c .before .row .given .1))
+    (λ c. let b = c .before .before in row-says _ _ (b .before .before .is-interrupt .ensures) (b .before .plain-kind .ensures) (b .row-of .ensures) (c .enum-told .given .1)))

@@ -13,8 +13,8 @@ use Rattle.rules.specs.Decides.{equals}
 use Rattle.rules.specs.Sizes.{taskCount, waitsMutex}
 use Rattle.rules.specs.Chain.{Leads, Ends, Fresh, fresh}
 use Rattle.rules.specs.Afresh.{lt-or-le, fresh-is, fresh-one}
-use Rattle.rules.specs.Table.{Table, taskOf, mutexOf, works, written, noTask, noMutex, withWork, withTask, withMutex}
-use Rattle.rules.specs.Move.{holderOf, next, baseOf, freshIn, putWork, walk}
+use Rattle.rules.specs.Table.{Table, taskOf, mutexOf, works, written, noTask, noMutex, withWork, withTask, withMutex, holderOf}
+use Rattle.rules.specs.Move.{next, baseOf, freshIn, putWork, walk}
 use Rattle.rules.specs.declared.Task.{Task}
 use Rattle.rules.specs.declared.Mutex.{Mutex}
 use Rattle.rules.specs.Sound.{WorkedOut}

@@ -10,11 +10,11 @@ use lib.ListN.{length, List·getD-eq-default}
 use Rattle.rules.specs.Sizes.{taskCount, mutexCount, delayed, waitsMutex}
 use Rattle.rules.specs.Chain.{after, Leads, Fresh, fresh}
 use Rattle.rules.specs.Afresh.{lt-or-le, here, split, fresh-is, fresh-one}
-use Rattle.rules.specs.Table.{Table, taskOf, mutexOf, isAble, written, noMutex, withBase, withState, withMark}
-use Rattle.rules.specs.Move.{put, holderOf, next, baseOf, freshIn, putWork, walk, away, ended}
+use Rattle.rules.specs.Table.{Table, taskOf, mutexOf, isAble, written, noMutex, withBase, withState, withMark, holderOf}
+use Rattle.rules.specs.Move.{put, next, baseOf, freshIn, putWork, walk, away, ended}
 use Rattle.rules.specs.Task.{created, changePriority}
 use Rattle.rules.specs.Object.{limited}
-use Rattle.rules.specs.Sound.{Each, Shaped, Settled, WorkedOut}
+use Rattle.rules.specs.Sound.{Each, Shaped, SoundWithin, WorkedOut}
 use Rattle.rules.specs.declared.Task.{Task}
 use Rattle.rules.specs.declared.Mutex.{Mutex}
 use Rattle.laws.specs.queues.Put.{sized, whichever, Stored, put-stored}
@@ -41,7 +41,7 @@ able-next t i a = next-is t i ∙ waits-none (holderOf t) (taskOf t i) (λ e. om
 limited-keeps : (limit : ℕ) (t : Table) (k : Task) → (limited limit t k .base ≡ k .base) × (limited limit t k .work ≡ k .work)
 limited-keeps limit t k = whichever (λ (x : Task). (x .base ≡ k .base) × (x .work ≡ k .work)) (eqb limit 0) (refl, refl) (refl, refl)
 
-module _ {t : Table} (h : Settled t) {i : ℕ} (l : i < taskCount) where
+module _ {t : Table} (h : SoundWithin t) {i : ℕ} (l : i < taskCount) where
   -- Task i has another record with the same working priority: where its base is another the walk begins at i, and where its wait is
   -- another it was and is for the task where the walk begins, or for none.
   stored-worked : (k : Task) (s : ℕ) → k .work ≡ taskOf t i .work → (k .base ≡ baseOf t i) ⊎ (i ≡ s)
@@ -134,7 +134,7 @@ nobody-waits t i s l none j e = go (ℕ-discrete (taskOf t j .state) waitsMutex)
     go (no d) = omega (arith, next-is t j, waits-none (holderOf t) (taskOf t j) d)
 
 -- Task i, which holds no mutex, has a new record, which waits for none and works at its base; the walk begins at the task for which i waited.
-module _ {t : Table} (h : Settled t) {i : ℕ} (l : i < taskCount) (unheld : Each mutexCount (λ m. mutexOf t m .holder ≢ written i)) (k : Task) (d : k .state ≢ waitsMutex)
+module _ {t : Table} (h : SoundWithin t) {i : ℕ} (l : i < taskCount) (unheld : Each mutexCount (λ m. mutexOf t m .holder ≢ written i)) (k : Task) (d : k .state ≢ waitsMutex)
     (own : k .work ≡ k .base) where
   abbrev u : Table
   u = put i k t
@@ -178,7 +178,7 @@ module _ {t : Table} (h : Settled t) {i : ℕ} (l : i < taskCount) (unheld : Eac
   renewed-worked = walked (next t i) u size (λ j m apart. renewed j m apart (ℕ-discrete j i))
 
 -- A free number: no task waited, and no chain moves.
-pub created-worked : {t : Table} → Settled t → (i base quantum : ℕ) → i < taskCount → taskOf t i .used ≡ 0 → WorkedOut (put i (created base quantum) t)
+pub created-worked : {t : Table} → SoundWithin t → (i base quantum : ℕ) → i < taskCount → taskOf t i .used ≡ 0 → WorkedOut (put i (created base quantum) t)
 created-worked {t} h i base quantum l free =
     let k = created base quantum in
     subst WorkedOut (walkOn-past taskCount next freshIn putWork taskCount (next t i) (put i k t) out) (renewed-worked h l unheld k (λ e. omega arith) refl)

@@ -12,7 +12,7 @@ use Rattle.rules.specs.Move.{put, rotate, walk, next, away, ready, ended}
 use Rattle.rules.specs.Time.{callerOf}
 use Rattle.rules.specs.Mutex.{handed, released}
 use Rattle.rules.specs.declared.Task.{Task}
-use Rattle.rules.specs.Sound.{Queued}
+use Rattle.rules.specs.Sound.{SoundQueues}
 use Rattle.laws.specs.queues.Stands.{able}
 use Rattle.laws.specs.queues.Fields.{frame, bare, put-rest, rotate-rest, walk-rest, walk-bare}
 use Rattle.laws.specs.queues.Put.{pick, refilled, task-put-same, task-put, rotate-stored}
@@ -57,7 +57,7 @@ module _ {i : ℕ} {x : Task} {t u : Table} (b : Becomes i x t u) where
         frames = ap frame (put-rest i k u) ∙ b .frames;
       }
 
-module _ {i : ℕ} {t : Table} (l : i < taskCount) (q : Queued t) where
+module _ {i : ℕ} {t : Table} (l : i < taskCount) (q : SoundQueues t) where
   pub put-becomes : (k : Task) → Becomes i k t (put i k t)
   put-becomes k = then-put (as-is i t t refl refl) k l (q .shaped .tasks)
 

@@ -8,12 +8,14 @@ use borrow.Author.Tests.{eq-eqb, lt-ltb}
 use Rattle.rules.specs.Sizes.{taskCount, semaphoreCount, mutexCount, mostNested, mostCount, ticksRound, delayed, given}
 use Rattle.rules.specs.Table.{Table, noTask, taskOf, semaphoreOf, mutexOf, semaphoreQueue, isAble, written, counting, heldBy, withSemaphore, withMutex}
 use Rattle.rules.specs.Decides.{equals, at-most}
-use Rattle.rules.specs.Sound.{MutexRight, Empty, Sound, Settled, objectsIn}
+use Rattle.rules.specs.Sound.{SoundMutex, Empty, Sound, SoundWithin}
 use Rattle.rules.specs.Time.{callerOf, markIn, yield, delay, delayResume}
 use Rattle.rules.specs.Lock.{lock, unlock}
 use Rattle.rules.specs.Object.{waits, taken}
-use Rattle.rules.specs.Semaphore.{semaphores, semaphoreCreate, semaphoreWait, semaphorePost}
-use Rattle.rules.specs.Mutex.{mutexes, mutexCreate, mutexWait, mutexPost}
+use Rattle.rules.specs.Semaphore.{semaphoreCreate, semaphoreWait, semaphorePost}
+use Rattle.rules.specs.Family.{ofState, semaphores, mutexes}
+use Rattle.rules.specs.Mutex.{mutexCreate, mutexWait, mutexPost}
+use Rattle.rules.specs.Kinds.{spelled}
 use Rattle.rules.specs.Step.{changeBy, Bounded}
 use Rattle.rules.specs.declared.Call.{Call}
 use Rattle.rules.specs.declared.Call.the-variants.{TaskCreate, TaskDelete, ChangePriority, Suspend, Resume, Yield, Delay, DelayResume, Lock, Unlock, Tick, SemaphoreCreate, SemaphoreDelete, SemaphoreWait, SemaphorePost, SemaphoreAbort, MutexCreate, MutexDelete, MutexWait, MutexPost, MutexAbort}
@@ -28,8 +30,9 @@ use Rattle.rules.specs.Move.{next}
 use Rattle.rules.specs.Task.{create, delete, changePriority, suspend, resume}
 use Rattle.laws.specs.keeps.Moves.{BeforeChoice, sound-before, framed-settled, no-wait, may-go-on, goes-on-keeps, put-keeps, put-walk-keeps, rotate-keeps, ended-keeps, Stores, stored-keeps}
 use Rattle.laws.specs.keeps.Release.{released-keeps}
-use Rattle.laws.specs.numbers.Accepted.{not-not, Accepted}
-use Rattle.laws.specs.queues.Stands.{semaphores-placed, mutexes-placed, no-queue}
+use Rattle.laws.specs.numbers.Presumes.{not-not, Presumes}
+use Rattle.laws.specs.queues.Rows.{among-semaphores, among-mutexes}
+use Rattle.laws.specs.queues.Stands.{no-queue}
 use Rattle.laws.specs.keeps.Objects.{HeldApart, may-apart, awaited-may, apart-may, unheld-right, held-right}
 use Rattle.laws.specs.keeps.Families.{mutex-stores, mutex-unwaited, semaphore-unwaited, waiter-of, semaphores-lawful, mutexes-lawful, abort-keeps, delete-keeps, waits-keeps}
 
@@ -43,7 +46,7 @@ module _ {t : Table} (h : BeforeChoice t) (l : callerOf t < taskCount) (a : isAb
 
 module _ {t : Table} (s : Sound t) where
   -- What a sound table has.
-  h : Settled t
+  h : SoundWithin t
   h = s .settled
 
   midway : BeforeChoice t
@@ -68,11 +71,11 @@ module _ {t : Table} (s : Sound t) where
   semaphoreWait-keeps o limit most c l u free =
       pick BeforeChoice at-most
       (λ (some : 1 ≤ semaphoreOf t o .count).
-      let z = no-queue semaphores-placed (h .queued) o l (h .tasks) (h .objects) (inr (lt-ltb 0 _ some)) in
+      let z = no-queue among-semaphores (h .queued) o l (h .tasks) (h .objects) (inr (lt-ltb 0 _ some)) in
       taken-keeps {t = withSemaphore o (counting (semaphoreOf t o .count - 1)) t} (counting-keeps o _ l (omega (arith, h .objects .semaphores o l .count)) z) caller-task (runs-able c))
       (λ (n : 1 ≤ semaphoreOf t o .count → ⊥).
       let none : semaphoreOf t o .count ≡ 0 = omega arith in
-      waits-keeps semaphores-lawful midway o l limit most caller-task (runs-able c) (free none) (record { semaphore = λ e. awaited-may t _ o caller-task (record { used = u; count = none }); mutex = λ e. absurd (omega arith) }))
+      waits-keeps semaphores-lawful midway o l limit most caller-task (runs-able c) (free none) (awaited-may t _ o caller-task (record { used = u; count = none })))
 
   semaphorePost-keeps : (o : ℕ) → o < semaphoreCount → semaphoreOf t o .count < mostCount → BeforeChoice (semaphorePost o t)
   unfolding semaphorePost
@@ -89,17 +92,17 @@ module _ {t : Table} (s : Sound t) where
       → BeforeChoice (withMutex m (heldBy v n) t)
   held-keeps m v n l d r some most u was = stored-keeps midway (⊎-elim free held was)
     where
-      right : MutexRight (heldBy v n)
+      right : SoundMutex (heldBy v n)
       right = held-right v n d r some most
 
       free : mutexOf t m .holder ≡ 0 → Stores t (withMutex m (heldBy v n) t) × Alike t (withMutex m (heldBy v n) t)
-      free z = mutex-unwaited h m (heldBy v n) l right (λ e. u) (no-queue mutexes-placed (h .queued) m l (h .tasks) (h .objects) (inr (eq-eqb _ 0 z)))
+      free z = mutex-unwaited h m (heldBy v n) l right (λ e. u) (no-queue among-mutexes (h .queued) m l (h .tasks) (h .objects) (inr (eq-eqb _ 0 z)))
 
       held : mutexOf t m .holder ≡ v → Stores t (withMutex m (heldBy v n) t) × Alike t (withMutex m (heldBy v n) t)
       held e = (
         mutex-stores h m (heldBy v n) right
             (λ j k q x.
-            let w = subst (λ (i : ℕ). HeldApart j (mutexOf t i)) x (may-apart t j _ k (h .objects .waits j k .mutex q)) in
+            let w = subst (λ (i : ℕ). HeldApart j (mutexOf t i)) x (may-apart t j _ k (h .objects .waits j k _ among-mutexes q)) in
             record { used = refl; held = d; apart = λ z. w .apart (e ∙ z) })
             (λ e. u),
         held-alike m (heldBy v n) t (sym e),
@@ -124,7 +127,7 @@ module _ {t : Table} (s : Sound t) where
         caller-task (runs-able c))
         (λ other.
         waits-keeps mutexes-lawful midway m l limit most caller-task (runs-able c) (free held other)
-        (record { semaphore = λ e. absurd (omega arith); mutex = λ e. apart-may t _ m (record { used = u; held = held; apart = other }) })))
+        (apart-may t _ m (record { used = u; held = held; apart = other }))))
 
     mutexPost-keeps : mutexOf t m .holder ≡ written (callerOf t) → BeforeChoice (mutexPost m t)
     unfolding mutexPost
@@ -137,8 +140,8 @@ module _ {t : Table} (s : Sound t) where
 
   -- ---- each call
 
-  pub change-keeps : (c : Call) → Bounded c → Accepted c t → BeforeChoice (changeBy c t)
-  unfolding changeBy Bounded create delete changePriority suspend resume delay objectsIn yield delayResume lock unlock semaphoreCreate mutexCreate
+  pub change-keeps : (c : Call) → Bounded c → Presumes c t → BeforeChoice (changeBy c t)
+  unfolding changeBy Bounded spelled create delete changePriority suspend resume delay ofState yield delayResume lock unlock semaphoreCreate mutexCreate
   change-keeps (TaskCreate i base quantum) b (l, u, p, q) =
       put-keeps midway
       (record {
@@ -178,7 +181,7 @@ module _ {t : Table} (s : Sound t) where
       (record {
         task = caller-task;
         right = marked-right (h .tasks _ caller-task) u delayed 0 n t (omega arith) (omega arith) (omega arith);
-        notDue = λ l e. mark-later n t (h .tick) (omega arith) b;
+        notDue = λ l e. mark-later n t (h .tick) (omega arith) (b 0);
         waits = no-wait t _ 1 0 (omega arith);
         holds = λ m l e. u;
         runs = λ d. absurd (d z);
@@ -199,15 +202,15 @@ module _ {t : Table} (s : Sound t) where
       }
   change-keeps Tick b n = ticked-keeps s
   change-keeps (SemaphoreCreate o n) b (l, u) =
-      counting-keeps o n l (omega arith) (no-queue semaphores-placed (h .queued) o l (h .tasks) (h .objects) (inl u))
+      counting-keeps o n l (omega (arith, b 1)) (no-queue among-semaphores (h .queued) o l (h .tasks) (h .objects) (inl u))
   change-keeps (SemaphoreDelete o force) b l = delete-keeps semaphores-lawful midway o l
-  change-keeps (SemaphoreWait o block limit) b (c, l, u, free) = semaphoreWait-keeps o limit b c l u free
+  change-keeps (SemaphoreWait o block limit) b (c, l, u, free) = semaphoreWait-keeps o limit (b 2) c l u free
   change-keeps (SemaphorePost o) b (l, n) = semaphorePost-keeps o l n
   change-keeps (SemaphoreAbort o) b (l, some) = abort-keeps semaphores-lawful midway o l some
   change-keeps (MutexCreate m) b (l, u) =
-      let z = no-queue mutexes-placed (h .queued) m l (h .tasks) (h .objects) (inl u) in
+      let z = no-queue among-mutexes (h .queued) m l (h .tasks) (h .objects) (inl u) in
       stored-keeps midway (mutex-unwaited h m (heldBy 0 0) l unheld-right (λ d. absurd (d refl)) z)
   change-keeps (MutexDelete m force) b l = delete-keeps mutexes-lawful midway m l
-  change-keeps (MutexWait m block limit) b (c, l, u, room, free) = mutexWait-keeps m c l u limit b room free
+  change-keeps (MutexWait m block limit) b (c, l, u, room, free) = mutexWait-keeps m c l u limit (b 2) room free
   change-keeps (MutexPost m) b (c, l, u, own) = mutexPost-keeps m c l u own
   change-keeps (MutexAbort m) b (l, some) = abort-keeps mutexes-lawful midway m l some

@@ -10,10 +10,11 @@ use native.Mathlib.Omega.{arith}
 use lib.Dec.{eqb}
 use borrow.Author.Tests.{eq-eqb, ne-eqb}
 use Rattle.rules.specs.Sizes.{taskCount, ticksRound, delayed, given, timedOut, objectDeleted}
-use Rattle.rules.specs.Table.{Table, taskOf, queueCount, ableQueue, firstIn, placeOf, isAble, withTick, withLeft}
+use Rattle.rules.specs.Table.{Table, taskOf, queueCount, ableQueue, firstIn, isAble, withTick, withLeft}
+use Rattle.rules.specs.Family.{placeOf}
 use Rattle.rules.specs.Move.{ready, ended, endedAll, hasPeer}
 use Rattle.rules.specs.Decides.{Decides, equals, either, both}
-use Rattle.rules.specs.Sound.{Empty, Sound, Settled}
+use Rattle.rules.specs.Sound.{Empty, Sound, SoundWithin}
 use Rattle.rules.specs.Time.{callerOf}
 use Rattle.rules.specs.Object.{emptied}
 use Rattle.rules.specs.Tick.{turned, isDue, dueEnded, dueBelow, ticked}
@@ -30,7 +31,7 @@ use Rattle.laws.specs.keeps.Moves.{Midway, BeforeChoice, framed-settled,
 -- ---- the first waiter
 
 -- The first of an object's queue waits.
-pub first-waiter : {t : Table} → Settled t → (q : ℕ) → q < queueCount → q ≢ ableQueue → firstIn q t ≢ 0 → Waiter t (firstIn q t - 1)
+pub first-waiter : {t : Table} → SoundWithin t → (q : ℕ) → q < queueCount → q ≢ ableQueue → firstIn q t ≢ 0 → Waiter t (firstIn q t - 1)
 first-waiter {t} s q l d some =
     let i = firstIn q t - 1 in
     let n : i < taskCount = omega (arith, first-range (s .queued) q l) in
@@ -50,7 +51,7 @@ pub record Emptied (q : ℕ) (t : Table) : Type 0 where
 
 module _ (q : ℕ) (l : q < queueCount) (d : q ≢ ableQueue) where
   -- Whose wait ends, stands there no longer.
-  one-fewer : {u : Table} → Settled u → (outcome : ℕ) → firstIn q u ≢ 0 → standing q (ended outcome (firstIn q u - 1) u) < standing q u
+  one-fewer : {u : Table} → SoundWithin u → (outcome : ℕ) → firstIn q u ≢ 0 → standing q (ended outcome (firstIn q u - 1) u) < standing q u
   one-fewer {u} s outcome some =
       tally-less _ _ i
       (λ j n. ap (λ (x : ℕ). eqb x q) (sym (bare-place _) ∙ ap placeOf (b .others j n) ∙ bare-place (taskOf u j)))
@@ -94,7 +95,7 @@ pub due-outcome : (i : ℕ) (t : Table) → dueOutcome i t ≤ objectDeleted
 due-outcome i t = whichever (λ x. x ≤ objectDeleted) (eqb (taskOf t i .state) delayed) (omega arith) (omega arith)
 
 -- Who has a mark waits.
-pub marked-waiter : {t : Table} → Settled t → (i : ℕ) → i < taskCount → taskOf t i .marked ≡ 1 → Waiter t i
+pub marked-waiter : {t : Table} → SoundWithin t → (i : ℕ) → i < taskCount → taskOf t i .marked ≡ 1 → Waiter t i
 marked-waiter {t} s i l m =
     record {
       task = l;

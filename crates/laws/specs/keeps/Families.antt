@@ -6,14 +6,12 @@ use Prim.Native.Nat.{ℕ, _-_, _≤_, _<_}
 use native.Mathlib.Omega.{arith}
 use lib.ListN.{length-set}
 use Rattle.rules.specs.Sizes.{taskCount, semaphoreCount, mutexCount, ticksRound, delayed, waitsMutex, aborted}
-use Rattle.rules.specs.Table.{Table, taskOf, semaphoreQueue, mutexQueue, firstIn, isAble, withSemaphore, withMutex}
-use Rattle.rules.specs.Move.{next, holderOf}
-use Rattle.rules.specs.Sound.{Empty, objectsIn, SemaphoreRight, MutexRight, WaitRight, Settled}
+use Rattle.rules.specs.Table.{Table, taskOf, semaphoreQueue, mutexQueue, firstIn, isAble, withSemaphore, withMutex, holderOf}
+use Rattle.rules.specs.Move.{next}
+use Rattle.rules.specs.Sound.{Empty, SoundSemaphore, SoundMutex, MayWait, SoundWithin}
 use Rattle.rules.specs.Time.{callerOf}
-use Rattle.rules.specs.Family.{Family, waitersOf}
+use Rattle.rules.specs.Family.{Family, waitersOf, semaphores, mutexes, families, Among}
 use Rattle.rules.specs.Object.{blocked, waits, abort, objectAbort, objectDelete}
-use Rattle.rules.specs.Semaphore.{semaphores}
-use Rattle.rules.specs.Mutex.{mutexes}
 use Rattle.rules.specs.declared.Semaphore.{Semaphore}
 use Rattle.rules.specs.declared.Mutex.{Mutex}
 use Rattle.laws.specs.queues.Put.{sized}
@@ -21,16 +19,17 @@ use Rattle.laws.specs.chains.Graph.{Alike, waits-task, unwaited-alike}
 use Rattle.laws.specs.chains.Priorities.{blocked-worked}
 use Rattle.laws.specs.keeps.Becomes.{caller, caller-used}
 use Rattle.laws.specs.keeps.Records.{limited-right, limited-used, limited-later}
-use Rattle.laws.specs.queues.Stands.{Placed, semaphores-placed, mutexes-placed, unwaited}
-use Rattle.laws.specs.keeps.Objects.{HeldApart, semaphore-objects, mutex-objects}
+use Rattle.laws.specs.queues.Rows.{among-semaphores, among-mutexes, waiting, known, numbers, first-queue, last-queue}
+use Rattle.laws.specs.queues.Stands.{unwaited}
+use Rattle.laws.specs.keeps.Objects.{one-wait, HeldApart, semaphore-objects, mutex-objects}
 use Rattle.laws.specs.keeps.Ending.{first-waiter, emptied-all}
 use Rattle.laws.specs.keeps.Moves.{BeforeChoice, put-walk-keeps, Waiter, ended-keeps, Stores, stores-keeps}
 
 -- ---- semaphores and mutexes stored
 
-module _ {t : Table} (s : Settled t) where
+module _ {t : Table} (s : SoundWithin t) where
   -- A mutex: whoever waits for it may go on waiting, and its holder is in use.
-  pub mutex-stores : (m : ℕ) (x : Mutex) → MutexRight x
+  pub mutex-stores : (m : ℕ) (x : Mutex) → SoundMutex x
       → ((j : ℕ) → j < taskCount → taskOf t j .state ≡ waitsMutex → taskOf t j .object ≡ m → HeldApart j x)
       → (x .holder ≢ 0 → taskOf t (x .holder - 1) .used ≡ 1)
       → Stores t (withMutex m x t)
@@ -38,14 +37,14 @@ module _ {t : Table} (s : Settled t) where
       record { tasks = refl; queues = refl; semaphores = refl; mutexes = length-set (t .mutexes) m x; frames = refl; objects = mutex-objects m x (s .objects) right waited uses }
 
   -- One for which nobody waits.
-  pub mutex-unwaited : (m : ℕ) (x : Mutex) → m < mutexCount → MutexRight x → (x .holder ≢ 0 → taskOf t (x .holder - 1) .used ≡ 1) → Empty (mutexQueue m) t
+  pub mutex-unwaited : (m : ℕ) (x : Mutex) → m < mutexCount → SoundMutex x → (x .holder ≢ 0 → taskOf t (x .holder - 1) .used ≡ 1) → Empty (mutexQueue m) t
       → Stores t (withMutex m x t) × Alike t (withMutex m x t)
   mutex-unwaited m x l right uses z =
-      let none = unwaited mutexes-placed (s .queued) m l z in
+      let none = unwaited among-mutexes (s .queued) m l z in
       (mutex-stores m x right (λ j k e o. absurd (none j k e o)) uses, unwaited-alike m x t (λ j w. none j (waits-task t m j (sized s) w) (w .0) (w .1)))
 
   -- The same of a semaphore, which makes no task wait for another.
-  pub semaphore-unwaited : (o : ℕ) (x : Semaphore) → o < semaphoreCount → SemaphoreRight x → Empty (semaphoreQueue o) t → Stores t (withSemaphore o x t) × Alike t (withSemaphore o x t)
+  pub semaphore-unwaited : (o : ℕ) (x : Semaphore) → o < semaphoreCount → SoundSemaphore x → Empty (semaphoreQueue o) t → Stores t (withSemaphore o x t) × Alike t (withSemaphore o x t)
   unfolding next holderOf
   semaphore-unwaited o x l right z = (
     record {
@@ -54,7 +53,7 @@ module _ {t : Table} (s : Settled t) where
       semaphores = length-set (t .semaphores) o x;
       mutexes = refl;
       frames = refl;
-      objects = semaphore-objects o x (s .objects) right (λ j k e y. absurd (unwaited semaphores-placed (s .queued) o l z j k e y));
+      objects = semaphore-objects o x (s .objects) right (λ j k e y. absurd (unwaited among-semaphores (s .queued) o l z j k e y));
     },
     record { nexts = λ j. refl; bases = λ j. refl; works = λ j. refl },
   )
@@ -63,36 +62,24 @@ module _ {t : Table} (s : Settled t) where
 
 -- What a family brings, so that the laws of the calls on any family hold of it.
 pub record Lawful (f : Family) : Type 1 where
-  pub placed : Placed f
-  -- its state is a wait's
-  pub waiting : delayed < f .state
-  pub known : f .state ≤ waitsMutex
-  pub numbers : objectsIn (f .state) ≡ f .count
+  pub among : Among f families
   -- where the state is a mutex's, the holder is the next in the chain
   pub chain : f .state ≡ waitsMutex → (t : Table) (o : ℕ) → f .holder t o ≡ holderOf t o
   -- one without a waiter may go
-  pub goes : {t : Table} → Settled t → (o : ℕ) → o < f .count → Empty (waitersOf f o) t → Stores t (f .gone o t) × Alike t (f .gone o t)
+  pub goes : {t : Table} → SoundWithin t → (o : ℕ) → o < f .count → Empty (waitersOf f o) t → Stores t (f .gone o t) × Alike t (f .gone o t)
 
 pub semaphores-lawful : Lawful semaphores
-unfolding objectsIn
 semaphores-lawful =
     record {
-      placed = semaphores-placed;
-      waiting = omega arith;
-      known = omega arith;
-      numbers = refl;
+      among = among-semaphores;
       chain = λ e. absurd (omega arith);
       goes = λ s o l. semaphore-unwaited s o _ l (record { used = omega arith; count = omega arith; free = λ e. refl });
     }
 
 pub mutexes-lawful : Lawful mutexes
-unfolding objectsIn
 mutexes-lawful =
     record {
-      placed = mutexes-placed;
-      waiting = omega arith;
-      known = omega arith;
-      numbers = refl;
+      among = among-mutexes;
       chain = λ e t o. refl;
       goes = λ s m l.
           mutex-unwaited s m _ l (record { used = omega arith; holder = omega arith; nesting = omega arith; free = λ e. refl; unheld = λ e. refl; held = λ d. absurd (d refl) }) (λ d. absurd (d refl));
@@ -101,8 +88,8 @@ mutexes-lawful =
 -- ---- the calls that every family has
 
 -- The first in the queue of an object waits.
-pub waiter-of : {f : Family} → Lawful f → {t : Table} → Settled t → (o : ℕ) → o < f .count → firstIn (waitersOf f o) t ≢ 0 → Waiter t (firstIn (waitersOf f o) t - 1)
-waiter-of {f} k s o l some = first-waiter s (waitersOf f o) (omega (arith, k .placed .range)) (λ e. omega (arith, k .placed .queues)) some
+pub waiter-of : {f : Family} → Lawful f → {t : Table} → SoundWithin t → (o : ℕ) → o < f .count → firstIn (waitersOf f o) t ≢ 0 → Waiter t (firstIn (waitersOf f o) t - 1)
+waiter-of {f} k s o l some = first-waiter s (waitersOf f o) (omega (arith, last-queue (k .among))) (λ e. omega (arith, first-queue (k .among))) some
 
 module _ {f : Family} (k : Lawful f) {t : Table} (h : BeforeChoice t) (o : ℕ) (l : o < f .count) where
   -- "Abort: the first waiter leaves, the chain from the holder moves, the waiter becomes plain, outcome 2."
@@ -114,11 +101,11 @@ module _ {f : Family} (k : Lawful f) {t : Table} (h : BeforeChoice t) (o : ℕ) 
   pub delete-keeps : BeforeChoice (objectDelete f o t)
   unfolding objectDelete
   delete-keeps =
-      let e = emptied-all (waitersOf f o) (omega (arith, k .placed .range)) (λ z. omega (arith, k .placed .queues)) h in
+      let e = emptied-all (waitersOf f o) (omega (arith, last-queue (k .among))) (λ z. omega (arith, first-queue (k .among))) h in
       stores-keeps (e .midway) (k .goes (e .midway .settled) o l (e .empty)) (f .holder t o)
 
   -- "Otherwise the caller leaves the able queue, goes behind its equals in the object's queue, and .. the chain from the holder moves."
-  pub waits-keeps : (limit : ℕ) → limit < ticksRound → callerOf t < taskCount → isAble (caller t) ≡ true → t .depth ≡ 0 → WaitRight t (callerOf t) (f .state) o
+  pub waits-keeps : (limit : ℕ) → limit < ticksRound → callerOf t < taskCount → isAble (caller t) ≡ true → t .depth ≡ 0 → MayWait f t (callerOf t) o
       → BeforeChoice (waits f o limit t)
   unfolding waits blocked
   waits-keeps limit most c a z may =
@@ -126,9 +113,9 @@ module _ {f : Family} (k : Lawful f) {t : Table} (h : BeforeChoice t) (o : ℕ) 
       put-walk-keeps h
       (record {
         task = c;
-        right = limited-right (s .tasks _ c) (caller-used t a) (f .state) o limit t (k .known) (k .waiting) (omega (arith, k .numbers));
+        right = limited-right (s .tasks _ c) (caller-used t a) (f .state) o limit t (known (k .among)) (waiting (k .among)) (omega (arith, numbers (k .among)));
         notDue = λ n. limited-later t (caller t) (f .state) o limit (s .tick) most;
-        waits = may;
+        waits = one-wait (k .among) may;
         holds = λ m n e. limited-used (s .tasks _ c) (caller-used t a) limit t;
         runs = λ d. absurd (d z);
       })

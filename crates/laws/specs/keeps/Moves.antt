@@ -8,10 +8,10 @@ use native.Mathlib.Omega.{arith}
 use lib.ListN.{length}
 use Rattle.rules.specs.Sizes.{taskCount, mutexCount, mostNested, ticksRound, plain, waitsSemaphore, objectDeleted}
 use Rattle.rules.specs.Afresh.{here}
-use Rattle.rules.specs.Table.{Table, taskOf, mutexOf, isAble, written, withBase, withSuspend, withLeft, withOutcome}
+use Rattle.rules.specs.Table.{Table, taskOf, mutexOf, isAble, written, withBase, withSuspend, withLeft, withOutcome, holderOf}
 use Rattle.rules.specs.Walk.{walkOn}
-use Rattle.rules.specs.Move.{put, rotate, walk, holderOf, next, ready, ended}
-use Rattle.rules.specs.Sound.{Each, WaitRight, Sound, TaskRight, Queued, WorkedOut, ObjectsRight, Settled}
+use Rattle.rules.specs.Move.{put, rotate, walk, next, ready, ended}
+use Rattle.rules.specs.Sound.{Each, SoundWait, Sound, SoundTask, SoundQueues, WorkedOut, SoundObjects, SoundWithin}
 use Rattle.rules.specs.declared.Task.{Task}
 use Rattle.laws.specs.queues.Put.{sized, refilled, put-stored, rotate-stored}
 use Rattle.laws.specs.queues.Fields.{rest, frame, framed, put-rest, rotate-rest, walk-rest, ended-rest}
@@ -21,6 +21,7 @@ use Rattle.laws.specs.chains.Priorities.{ended-worked}
 use Rattle.laws.specs.keeps.Becomes.{Becomes, becomes-each, as-is, then-walk, put-becomes, rotate-becomes, ended-becomes}
 use Rattle.laws.specs.keeps.Records.{NotYet, work-right, left-right, ready-right}
 use Rattle.laws.specs.keeps.Running.{MayRunOn, may-run-on, becomes-runs}
+use Rattle.laws.specs.queues.Rows.{waiting}
 use Rattle.laws.specs.queues.Stands.{Able}
 use Rattle.laws.specs.keeps.Objects.{waits-like, become-objects, holder-used}
 
@@ -28,7 +29,7 @@ use Rattle.laws.specs.keeps.Objects.{waits-like, become-objects, holder-
 
 -- The standing rules but for the choice of the running task, which comes last; of the marks, those of the first n tasks are not due.
 pub record Midway (n : ℕ) (t : Table) : Type 0 where
-  pub settled : Settled t
+  pub settled : SoundWithin t
   pub notDue : Each n (λ i. NotYet (t .tick) (taskOf t i))
   pub runs : MayRunOn t
 
@@ -39,7 +40,7 @@ pub sound-before : {t : Table} → Sound t → BeforeChoice t
 sound-before s = record { settled = s .settled; notDue = s .notDue; runs = may-run-on (s .runs) }
 
 -- Tick, depth and running task alone.
-pub framed-settled : {t : Table} → Settled t → (tick depth running : ℕ) → tick < ticksRound → depth ≤ mostNested → Settled (framed tick depth running t)
+pub framed-settled : {t : Table} → SoundWithin t → (tick depth running : ℕ) → tick < ticksRound → depth ≤ mostNested → SoundWithin (framed tick depth running t)
 unfolding next holderOf
 framed-settled {t} s tick depth running l m =
     let u = framed tick depth running t in
@@ -59,9 +60,9 @@ framed-settled {t} s tick depth running l m =
 -- Task i may become k.
 pub record MayBecome (n : ℕ) (t : Table) (i : ℕ) (k : Task) : Type 0 where
   pub task : i < taskCount
-  pub right : TaskRight k
+  pub right : SoundTask k
   pub notDue : i < n → NotYet (t .tick) k
-  pub waits : WaitRight t i (k .state) (k .object)
+  pub waits : SoundWait t i (k .state) (k .object)
   pub holds : (m : ℕ) → m < mutexCount → mutexOf t m .holder ≡ written i → k .used ≡ 1
   pub runs : t .depth ≢ 0 → t .running ≡ written i → Able (taskOf t i) → Able k
 
@@ -70,11 +71,11 @@ abbrev pub seen : Task → Task
 seen k = withBase 0 (withSuspend 0 (withLeft 0 (withOutcome 0 k)))
 
 -- It waits for no object.
-pub no-wait : (t : Table) (i state object : ℕ) → state < waitsSemaphore → WaitRight t i state object
-no-wait t i state object l = record { semaphore = λ e. absurd (omega arith); mutex = λ e. absurd (omega arith) }
+pub no-wait : (t : Table) (i state object : ℕ) → state < waitsSemaphore → SoundWait t i state object
+no-wait t i state object l f a e = absurd (omega (arith, waiting a))
 
 -- What all moves go through: one task became k, and queues, working priorities and objects are right.
-pub becomes-keeps : {n : ℕ} {t u : Table} {i : ℕ} {k : Task} → Midway n t → MayBecome n t i k → Becomes i k t u → Queued u → WorkedOut u → ObjectsRight u → Midway n u
+pub becomes-keeps : {n : ℕ} {t u : Table} {i : ℕ} {k : Task} → Midway n t → MayBecome n t i k → Becomes i k t u → SoundQueues u → WorkedOut u → SoundObjects u → Midway n u
 becomes-keeps {n} {t} {u} {i} {k} h m b queued worked objects =
     let s = h .settled in
     record {
@@ -82,7 +83,7 @@ becomes-keeps {n} {t} {u} {i} {k} h m b queued worked objects =
           record {
             queued = queued;
             worked = worked;
-            tasks = λ j l. work-right (becomes-each (λ x. TaskRight) b j (work-right (m .right) 0 (omega arith)) (work-right (s .tasks j l) 0 (omega arith))) (taskOf u j .work) (worked j l .least j l here);
+            tasks = λ j l. work-right (becomes-each (λ x. SoundTask) b j (work-right (m .right) 0 (omega arith)) (work-right (s .tasks j l) 0 (omega arith))) (taskOf u j .work) (worked j l .least j l here);
             objects = objects;
             tick = omega (arith, ap (λ (x : Table). x .tick) (b .frames), s .tick);
             depth = omega (arith, ap (λ (x : Table). x .depth) (b .frames), s .depth);
@@ -92,11 +93,11 @@ becomes-keeps {n} {t} {u} {i} {k} h m b queued worked objects =
     }
 
 module _ {n : ℕ} {t : Table} (h : Midway n t) where
-  s : Settled t
+  s : SoundWithin t
   s = h .settled
 
   -- No object changes.
-  one-keeps : {u : Table} {i : ℕ} {k : Task} → MayBecome n t i k → Becomes i k t u → rest u ≡ rest t → Queued u → WorkedOut u → Midway n u
+  one-keeps : {u : Table} {i : ℕ} {k : Task} → MayBecome n t i k → Becomes i k t u → rest u ≡ rest t → SoundQueues u → WorkedOut u → Midway n u
   one-keeps m b rests queued worked = becomes-keeps h m b queued worked (become-objects b rests (s .objects) (m .waits) (m .holds))
 
   -- A task is put, and a chain moves behind it.
@@ -111,7 +112,7 @@ module _ {n : ℕ} {t : Table} (h : Midway n t) where
 
   module _ {i : ℕ} (l : i < taskCount) where
     -- It goes on as it was, but for fields that bear on no rule of others.
-    pub may-go-on : (k : Task) → TaskRight k → seen k ≡ seen (taskOf t i) → (t .depth ≢ 0 → t .running ≡ written i → Able (taskOf t i) → Able k) → MayBecome n t i k
+    pub may-go-on : (k : Task) → SoundTask k → seen k ≡ seen (taskOf t i) → (t .depth ≢ 0 → t .running ≡ written i → Able (taskOf t i) → Able k) → MayBecome n t i k
     may-go-on k right e runs =
         let state = ap (λ (x : Task). x .state) e in
         let marked = ap (λ (x : Task). x .marked) e in
@@ -125,7 +126,7 @@ module _ {n : ℕ} {t : Table} (h : Midway n t) where
         }
 
     -- And it is put so.
-    pub goes-on-keeps : (k : Task) → TaskRight k → seen k ≡ seen (taskOf t i) → k .base ≡ taskOf t i .base → (t .depth ≢ 0 → t .running ≡ written i → Able (taskOf t i) → Able k) → Midway n (put i k t)
+    pub goes-on-keeps : (k : Task) → SoundTask k → seen k ≡ seen (taskOf t i) → k .base ≡ taskOf t i .base → (t .depth ≢ 0 → t .running ≡ written i → Able (taskOf t i) → Able k) → Midway n (put i k t)
     goes-on-keeps k right e b runs =
         put-keeps (may-go-on k right e runs)
         (alike-worked (stored-as (put-stored i k t l) (ap (λ (x : Task). x .state) e) (ap (λ (x : Task). x .object) e) b (ap (λ (x : Task). x .work) e)) (s .worked))
@@ -175,7 +176,7 @@ pub record Stores (t u : Table) : Type 0 where
   pub semaphores : length (u .semaphores) ≡ length (t .semaphores)
   pub mutexes : length (u .mutexes) ≡ length (t .mutexes)
   pub frames : frame u ≡ frame t
-  pub objects : ObjectsRight u
+  pub objects : SoundObjects u
 
 module _ {n : ℕ} {t u : Table} (h : Midway n t) (x : Stores t u) where
   -- A chain moves behind it.

@@ -1,4 +1,4 @@
--- What the standing rules say of objects and of who waits for them (`ObjectsRight`), after one task or one object changes.
+-- What the standing rules say of objects and of who waits for them (`SoundObjects`), after one task or one object changes.
 use mathlib.Core.Path.{_≡_, refl, sym, ap, subst}
 use mathlib.Core.Logic.{_≢_}
 use Prim.Native.Nat.{ℕ, _-_, _≤_, _<_}
@@ -6,14 +6,13 @@ use native.Mathlib.Nat.{pos-of-ne-zero}
 use borrow.Author.Tests.{eqb-true, eq-eqb, ne-eqb, ltb-true, lt-ltb}
 use native.Mathlib.Omega.{arith}
 use Rattle.rules.specs.Sizes.{taskCount, mutexCount, mostNested, waitsSemaphore, waitsMutex}
-use Rattle.rules.specs.Table.{Table, taskOf, semaphoreOf, mutexOf, written, noSemaphore, noMutex, heldBy, withSemaphore, withMutex}
+use Rattle.rules.specs.Table.{Table, taskOf, semaphoreOf, mutexOf, written, noSemaphore, noMutex, heldBy, withSemaphore, withMutex, holderOf}
 use Rattle.rules.specs.declared.Task.{Task}
 use Rattle.rules.specs.declared.Semaphore.{Semaphore}
 use Rattle.rules.specs.declared.Mutex.{Mutex}
-use Rattle.rules.specs.Sound.{SemaphoreRight, MutexRight, MayWait, WaitRight, ObjectsRight}
-use Rattle.rules.specs.Move.{holderOf}
-use Rattle.rules.specs.Semaphore.{semaphores}
-use Rattle.rules.specs.Mutex.{mutexes}
+use Rattle.rules.specs.Sound.{SoundSemaphore, SoundMutex, MayWait, SoundWait, SoundObjects}
+use Rattle.rules.specs.Family.{Family, semaphores, mutexes, families, Among}
+use Rattle.laws.specs.queues.Rows.{among-semaphores, among-mutexes, of-families, one-family}
 use Rattle.laws.specs.chains.Graph.{written-holder}
 use Rattle.laws.specs.queues.Fields.{rest}
 use Rattle.laws.specs.queues.Put.{set-each}
@@ -51,28 +50,31 @@ module _ (t : Table) (i o : ℕ) where
       own : mutexOf t o .holder - 1 ≡ i → mutexOf t o .holder ≡ written i
       own e = omega (arith, pos-of-ne-zero (a .held))
 
+-- A task may be in the state of a family for which it may wait.
+pub one-wait : {f : Family} → Among f families → {t : Table} {i o : ℕ} → MayWait f t i o → SoundWait t i (f .state) o
+one-wait a {t} {i} {o} w g b e = subst (λ (h : Family). MayWait h t i o) (one-family a b e) w
+
 -- Where the objects are the same, so is who may wait.
-pub waits-like : {t u : Table} (i state object : ℕ) → u .semaphores ≡ t .semaphores → u .mutexes ≡ t .mutexes → WaitRight t i state object → WaitRight u i state object
+pub waits-like : {t u : Table} (i state object : ℕ) → u .semaphores ≡ t .semaphores → u .mutexes ≡ t .mutexes → SoundWait t i state object → SoundWait u i state object
 unfolding holderOf
 waits-like i state object a b r =
-    record {
-      semaphore = λ e. let w = r .semaphore e in record { used = rw a (w .used); nothing = rw a (w .nothing); apart = w .apart };
-      mutex = λ e. let w = r .mutex e in record { used = rw b (w .used); nothing = rw b (w .nothing); apart = rw b (w .apart) };
-    }
+    of-families _
+    (λ e. let w = r semaphores among-semaphores e in record { used = rw a (w .used); nothing = rw a (w .nothing); apart = w .apart })
+    (λ e. let w = r mutexes among-mutexes e in record { used = rw b (w .used); nothing = rw b (w .nothing); apart = rw b (w .apart) })
 
 -- ---- one task changes
 
-pub become-objects : {i : ℕ} {k : Task} {t u : Table} → Becomes i k t u → rest u ≡ rest t → ObjectsRight t
-    → WaitRight t i (k .state) (k .object)
+pub become-objects : {i : ℕ} {k : Task} {t u : Table} → Becomes i k t u → rest u ≡ rest t → SoundObjects t
+    → SoundWait t i (k .state) (k .object)
     → ((m : ℕ) → m < mutexCount → mutexOf t m .holder ≡ written i → k .used ≡ 1)
-    → ObjectsRight u
+    → SoundObjects u
 become-objects {i} {k} {t} {u} b rests old may uses =
     record {
-      semaphores = λ s l. subst (λ (x : Table). SemaphoreRight (semaphoreOf x s)) same (old .semaphores s l);
-      mutexes = λ m l. subst (λ (x : Table). MutexRight (mutexOf x m)) same (old .mutexes m l);
+      semaphores = λ s l. subst (λ (x : Table). SoundSemaphore (semaphoreOf x s)) same (old .semaphores s l);
+      mutexes = λ m l. subst (λ (x : Table). SoundMutex (mutexOf x m)) same (old .mutexes m l);
       waits = λ j l.
           waits-like j (taskOf u j .state) (taskOf u j .object) (ap (λ (x : Table). x .semaphores) rests) (ap (λ (x : Table). x .mutexes) rests)
-          (becomes-each (λ n x. WaitRight t n (x .state) (x .object)) b j may (old .waits j l));
+          (becomes-each (λ n x. SoundWait t n (x .state) (x .object)) b j may (old .waits j l));
       holders = λ m l.
           let h = mutexOf t m .holder in
           subst
@@ -85,51 +87,49 @@ become-objects {i} {k} {t} {u} b rests old may uses =
     same = sym rests
 
 -- Who holds a mutex is in use.
-pub holder-used : {t : Table} → ObjectsRight t → (i m : ℕ) → m < mutexCount → mutexOf t m .holder ≡ written i → taskOf t i .used ≡ 1
+pub holder-used : {t : Table} → SoundObjects t → (i m : ℕ) → m < mutexCount → mutexOf t m .holder ≡ written i → taskOf t i .used ≡ 1
 holder-used {t} old i m l e = subst (λ (j : ℕ). taskOf t j .used ≡ 1) (omega arith) (old .holders m l (omega arith))
 
 -- ---- one object changes
 
-pub semaphore-objects : {t : Table} (s : ℕ) (x : Semaphore) → ObjectsRight t → SemaphoreRight x
+pub semaphore-objects : {t : Table} (s : ℕ) (x : Semaphore) → SoundObjects t → SoundSemaphore x
     → ((j : ℕ) → j < taskCount → taskOf t j .state ≡ waitsSemaphore → taskOf t j .object ≡ s → Awaited x)
-    → ObjectsRight (withSemaphore s x t)
+    → SoundObjects (withSemaphore s x t)
 semaphore-objects {t} s x old right waited =
     record {
-      semaphores = λ n l. set-each (λ n. SemaphoreRight) (t .semaphores) s n x noSemaphore right (old .semaphores n l);
+      semaphores = λ n l. set-each (λ n. SoundSemaphore) (t .semaphores) s n x noSemaphore right (old .semaphores n l);
       mutexes = old .mutexes;
       waits = λ j l.
-          record {
-            semaphore = λ e.
-                let o = taskOf t j .object in
-                awaited-may (withSemaphore s x t) j o l
-                (set-each (λ n y. n ≡ o → Awaited y) (t .semaphores) s o x noSemaphore (λ q. waited j l e (sym q)) (λ q. may-awaited t j o (old .waits j l .semaphore e)) refl);
-            mutex = λ e. apart-may (withSemaphore s x t) j (taskOf t j .object) (may-apart t j (taskOf t j .object) l (old .waits j l .mutex e));
-          };
+          let o = taskOf t j .object in
+          of-families _
+          (λ e.
+          awaited-may (withSemaphore s x t) j o l
+          (set-each (λ n y. n ≡ o → Awaited y) (t .semaphores) s o x noSemaphore (λ q. waited j l e (sym q)) (λ q. may-awaited t j o (old .waits j l semaphores among-semaphores e)) refl))
+          (λ e. apart-may (withSemaphore s x t) j o (may-apart t j o l (old .waits j l mutexes among-mutexes e)));
       holders = old .holders;
     }
 
-pub mutex-objects : {t : Table} (m : ℕ) (x : Mutex) → ObjectsRight t → MutexRight x
+pub mutex-objects : {t : Table} (m : ℕ) (x : Mutex) → SoundObjects t → SoundMutex x
     → ((j : ℕ) → j < taskCount → taskOf t j .state ≡ waitsMutex → taskOf t j .object ≡ m → HeldApart j x)
     → (x .holder ≢ 0 → taskOf t (x .holder - 1) .used ≡ 1)
-    → ObjectsRight (withMutex m x t)
+    → SoundObjects (withMutex m x t)
 mutex-objects {t} m x old right waited uses =
     record {
       semaphores = old .semaphores;
-      mutexes = λ n l. set-each (λ n. MutexRight) (t .mutexes) m n x noMutex right (old .mutexes n l);
+      mutexes = λ n l. set-each (λ n. SoundMutex) (t .mutexes) m n x noMutex right (old .mutexes n l);
       waits = λ j l.
-          record {
-            semaphore = λ e. awaited-may (withMutex m x t) j (taskOf t j .object) l (may-awaited t j (taskOf t j .object) (old .waits j l .semaphore e));
-            mutex = λ e.
-                let o = taskOf t j .object in
-                apart-may (withMutex m x t) j o
-                (set-each (λ n y. n ≡ o → HeldApart j y) (t .mutexes) m o x noMutex (λ q. waited j l e (sym q)) (λ q. may-apart t j o l (old .waits j l .mutex e)) refl);
-          };
+          let o = taskOf t j .object in
+          of-families _
+          (λ e. awaited-may (withMutex m x t) j o l (may-awaited t j o (old .waits j l semaphores among-semaphores e)))
+          (λ e.
+          apart-may (withMutex m x t) j o
+          (set-each (λ n y. n ≡ o → HeldApart j y) (t .mutexes) m o x noMutex (λ q. waited j l e (sym q)) (λ q. may-apart t j o l (old .waits j l mutexes among-mutexes e)) refl));
       holders = λ n l. set-each (λ n y. y .holder ≢ 0 → taskOf t (y .holder - 1) .used ≡ 1) (t .mutexes) m n x noMutex uses (old .holders n l);
     }
 
 -- A mutex without a holder, and one with.
-pub unheld-right : MutexRight (heldBy 0 0)
+pub unheld-right : SoundMutex (heldBy 0 0)
 unheld-right = record { used = omega arith; holder = omega arith; nesting = omega arith; free = λ z. absurd (omega arith); unheld = λ e. refl; held = λ d. absurd (d refl) }
 
-pub held-right : (h n : ℕ) → h ≢ 0 → h ≤ taskCount → 1 ≤ n → n ≤ mostNested → MutexRight (heldBy h n)
+pub held-right : (h n : ℕ) → h ≢ 0 → h ≤ taskCount → 1 ≤ n → n ≤ mostNested → SoundMutex (heldBy h n)
 held-right h n d l g k = record { used = omega arith; holder = l; nesting = k; free = λ z. absurd (omega arith); unheld = λ e. absurd (d e); held = λ e. g }

@@ -4,11 +4,12 @@ use mathlib.Core.Logic.{_≢_}
 use Prim.Native.Nat.{ℕ, _≤_, _<_}
 use native.Mathlib.Omega.{arith}
 use lib.Dec.{eqb}
-use Rattle.rules.specs.Sizes.{lastPriority, mostNested, mostQuantum, ticksRound, plain, delayed, waitsMutex, objectDeleted}
+use Rattle.rules.specs.Sizes.{lastPriority, mostNested, mostQuantum, ticksRound, plain, delayed, objectDeleted}
 use Rattle.rules.specs.Table.{Table, noTask, withBase, withWork, withSuspend, withLeft, withState, withMark, withOutcome}
 use Rattle.rules.specs.Decides.{equals}
 use Rattle.rules.specs.Move.{ready}
-use Rattle.rules.specs.Sound.{objectsIn, marksIn, TaskInRange, TaskRight}
+use Rattle.rules.specs.Sound.{marksIn, TaskInRange, SoundTask}
+use Rattle.rules.specs.Family.{lastState, ofState, objectsIn}
 use Rattle.rules.specs.Task.{created}
 use Rattle.rules.specs.Time.{markIn}
 use Rattle.rules.specs.Object.{limited}
@@ -18,20 +19,20 @@ use Rattle.laws.specs.queues.Put.{whichever, pick}
 -- ---- fields in range
 
 -- A task in use has no fields that must be zero.
-in-use : {k : Task} → k .used ≡ 1 → TaskInRange k → (k .state ≡ plain → k .marked ≡ 0) → (k .state ≡ delayed → k .marked ≡ 1) → k .left ≤ k .quantum → TaskRight k
+in-use : {k : Task} → k .used ≡ 1 → TaskInRange k → (k .state ≡ plain → k .marked ≡ 0) → (k .state ≡ delayed → k .marked ≡ 1) → k .left ≤ k .quantum → SoundTask k
 in-use {k} u r p d l = record { inRange = r; freeZero = λ z. absurd (omega arith); plainMark = p; delayMark = d; left = l }
 
-pub free-right : TaskRight noTask
-unfolding objectsIn marksIn
+pub free-right : SoundTask noTask
+unfolding ofState marksIn
 free-right = record { inRange = omega arith; freeZero = λ z. refl; plainMark = λ e. refl; delayMark = λ e. absurd (omega arith); left = omega arith }
 
-pub created-right : {base quantum : ℕ} → base ≤ lastPriority → quantum ≤ mostQuantum → TaskRight (created base quantum)
-unfolding objectsIn marksIn
+pub created-right : {base quantum : ℕ} → base ≤ lastPriority → quantum ≤ mostQuantum → SoundTask (created base quantum)
+unfolding ofState marksIn
 created-right b q = in-use refl (omega arith) (λ e. refl) (λ e. absurd (omega arith)) (omega arith)
 
-module _ {k : Task} (r : TaskRight k) where
+module _ {k : Task} (r : SoundTask k) where
   -- A working priority no greater than the base.
-  pub work-right : (p : ℕ) → p ≤ k .base → TaskRight (withWork p k)
+  pub work-right : (p : ℕ) → p ≤ k .base → SoundTask (withWork p k)
   work-right p l =
       record {
         inRange = omega arith;
@@ -42,7 +43,7 @@ module _ {k : Task} (r : TaskRight k) where
       }
 
   -- No more left than the quantum.
-  pub left-right : (x : ℕ) → x ≤ k .quantum → TaskRight (withLeft x k)
+  pub left-right : (x : ℕ) → x ≤ k .quantum → SoundTask (withLeft x k)
   left-right x l =
       record {
         inRange = omega arith;
@@ -53,33 +54,33 @@ module _ {k : Task} (r : TaskRight k) where
       }
 
   module _ (u : k .used ≡ 1) where
-    pub base-right : (base : ℕ) → base ≤ lastPriority → TaskRight (withBase base k)
+    pub base-right : (base : ℕ) → base ≤ lastPriority → SoundTask (withBase base k)
     base-right base l = in-use u (omega arith) (r .plainMark) (r .delayMark) (r .left)
 
-    pub suspend-right : (n : ℕ) → n ≤ mostNested → TaskRight (withSuspend n k)
+    pub suspend-right : (n : ℕ) → n ≤ mostNested → SoundTask (withSuspend n k)
     suspend-right n l = in-use u (omega arith) (r .plainMark) (r .delayMark) (r .left)
 
-    pub outcome-right : (outcome : ℕ) → outcome ≤ objectDeleted → TaskRight (withOutcome outcome k)
+    pub outcome-right : (outcome : ℕ) → outcome ≤ objectDeleted → SoundTask (withOutcome outcome k)
     outcome-right outcome l = in-use u (omega arith) (r .plainMark) (r .delayMark) (r .left)
 
-    pub ready-right : (outcome : ℕ) → outcome ≤ objectDeleted → TaskRight (ready outcome k)
-    unfolding objectsIn marksIn
+    pub ready-right : (outcome : ℕ) → outcome ≤ objectDeleted → SoundTask (ready outcome k)
+    unfolding ofState marksIn
     ready-right outcome l = in-use u (omega arith) (λ e. refl) (λ e. absurd (omega arith)) (r .left)
 
     -- A delay, or a wait with its limit.
-    pub marked-right : (state object n : ℕ) (t : Table) → state ≤ waitsMutex → state ≢ plain → object < objectsIn state
-        → TaskRight (withState state object (withMark 1 (markIn n t) k))
+    pub marked-right : (state object n : ℕ) (t : Table) → state ≤ lastState → state ≢ plain → object < objectsIn state
+        → SoundTask (withState state object (withMark 1 (markIn n t) k))
     unfolding marksIn
     marked-right state object n t l d o = in-use u (omega arith) (λ e. absurd (d e)) (λ e. refl) (r .left)
 
-    unmarked-right : (state object : ℕ) → state ≤ waitsMutex → delayed < state → object < objectsIn state → TaskRight (withState state object (withMark 0 0 k))
+    unmarked-right : (state object : ℕ) → state ≤ lastState → delayed < state → object < objectsIn state → SoundTask (withState state object (withMark 0 0 k))
     unfolding marksIn
     unmarked-right state object l d o = in-use u (omega arith) (λ e. refl) (λ e. absurd (omega arith)) (r .left)
 
-    pub limited-right : (state object limit : ℕ) (t : Table) → state ≤ waitsMutex → delayed < state → object < objectsIn state
-        → TaskRight (withState state object (limited limit t k))
+    pub limited-right : (state object limit : ℕ) (t : Table) → state ≤ lastState → delayed < state → object < objectsIn state
+        → SoundTask (withState state object (limited limit t k))
     limited-right state object limit t l d o =
-        whichever (λ x. TaskRight (withState state object x)) (eqb limit 0) (unmarked-right state object l d o) (marked-right state object limit t l (λ e. omega arith) o)
+        whichever (λ x. SoundTask (withState state object x)) (eqb limit 0) (unmarked-right state object l d o) (marked-right state object limit t l (λ e. omega arith) o)
 
     pub limited-used : (limit : ℕ) (t : Table) → limited limit t k .used ≡ 1
     limited-used limit t = whichever (λ (x : Task). x .used ≡ 1) (eqb limit 0) u u

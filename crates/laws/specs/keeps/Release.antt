@@ -8,18 +8,20 @@ use lib.ListN.{length}
 use lib.Seq.{getD-set-same, set-set}
 use Rattle.rules.specs.Sizes.{taskCount, mutexCount, given}
 use Rattle.rules.specs.Chain.{fresh}
-use Rattle.rules.specs.Table.{Table, taskOf, mutexOf, placeOf, mutexQueue, firstIn, written, noMutex, heldBy, withMutex}
-use Rattle.rules.specs.Move.{holderOf, next, baseOf, ready}
+use Rattle.rules.specs.Table.{Table, taskOf, mutexOf, mutexQueue, firstIn, written, noMutex, heldBy, withMutex, holderOf}
+use Rattle.rules.specs.Family.{placeOf}
+use Rattle.rules.specs.Move.{next, baseOf, ready}
 use Rattle.rules.specs.Time.{callerOf}
 use Rattle.rules.specs.Mutex.{released}
 use Rattle.rules.specs.declared.Task.{Task}
 use Rattle.rules.specs.declared.Mutex.{Mutex}
-use Rattle.rules.specs.Sound.{Settled, Queued, WorkedOut, ObjectsRight}
+use Rattle.rules.specs.Sound.{SoundWithin, SoundQueues, WorkedOut, SoundObjects}
 use Rattle.laws.specs.queues.Put.{sized, Stored, put-stored}
 use Rattle.laws.specs.chains.Change.{Toward, Handed, handed-kept}
 use Rattle.laws.specs.queues.Fields.{bare, put-rest, walk-rest, walk-bare, walk-place, rest}
 use Rattle.laws.specs.queues.Queues.{mutex-queued, put-queued, walk-queued}
-use Rattle.laws.specs.queues.Stands.{placed-used, mutex-place, mutex-there, semaphore-range, first-range, first-there, first-least, mutexes-placed, unwaited}
+use Rattle.laws.specs.queues.Rows.{among-mutexes}
+use Rattle.laws.specs.queues.Stands.{placed-used, waiter-place, waiter-there, first-range, first-there, first-least, unwaited}
 use Rattle.laws.specs.keeps.Becomes.{Becomes, as-is, then-walk, then-stored, then-put, freed, given-to, released-one}
 use Rattle.laws.specs.chains.Graph.{waits-none, ends-sized, stored-size, stored-next, stored-next-other, stored-bases, stored-works, Waits, waits-or, waits-next, waits-task, no-holder, written-holder, mutex-other, computed-worked, worked-computed}
 use Rattle.laws.specs.chains.Priorities.{changed-worked}
@@ -29,7 +31,7 @@ use Rattle.laws.specs.keeps.Moves.{Midway, Waiter, no-wait, becomes-keep
 
 -- ---- a free mutex is handed to the first of its waiters
 
-module _ (m : ℕ) (t : Table) (q : Queued t) (l : m < mutexCount) (worked : WorkedOut t) (free : mutexOf t m .holder ≡ 0) (some : firstIn (mutexQueue m) t ≢ 0)
+module _ (m : ℕ) (t : Table) (q : SoundQueues t) (l : m < mutexCount) (worked : WorkedOut t) (free : mutexOf t m .holder ≡ 0) (some : firstIn (mutexQueue m) t ≢ 0)
     (waited : Waits t m (firstIn (mutexQueue m) t - 1)) where
   abbrev w : ℕ
   w = firstIn (mutexQueue m) t
@@ -60,7 +62,7 @@ module _ (m : ℕ) (t : Table) (q : Queued t) (l : m < mutexCount) (worked : Wor
       → (next u j ≡ next t j) ⊎ ((j < taskCount) × (taskCount ≤ next t j) × (next u j ≡ i) × (fresh taskCount (next t) (baseOf t) i ≤ fresh taskCount (next t) (baseOf t) j))
   others j d (yes x) =
       let k = waits-task t m j z x in
-      let least = first-least q (mutexQueue m) (omega arith) j k (mutex-place (taskOf t j) (x .0) ∙ ap mutexQueue (x .1)) in
+      let least = first-least q (mutexQueue m) (omega arith) j k (waiter-place (taskOf t j) among-mutexes (x .0) ∙ ap mutexQueue (x .1)) in
       inr (
         k,
         omega (arith, waits-next t m j x, no-holder t m free),
@@ -89,7 +91,7 @@ module _ (m : ℕ) (t : Table) (q : Queued t) (l : m < mutexCount) (worked : Wor
 -- ---- a release
 
 module _ {n : ℕ} {t : Table} (h : Midway n t) (m : ℕ) (l : m < mutexCount) (own : mutexOf t m .holder ≡ written (callerOf t)) where
-  s : Settled t
+  s : SoundWithin t
   s = h .settled
 
   -- The mutex counts for nobody.
@@ -104,7 +106,7 @@ module _ {n : ℕ} {t : Table} (h : Midway n t) (m : ℕ) (l : m < mutexCount) (
   waits j (yes q) = inr (inl (waits-next t m j q ∙ written-holder t m (callerOf t) own), inr (omega (arith, waits-next free m j q, no-holder free m none-holds)))
   waits j (no q) = inl (mutex-other m (heldBy 0 0) t j q)
 
-  queued : Queued (freed m t)
+  queued : SoundQueues (freed m t)
   queued = walk-queued (callerOf t) (mutex-queued m (heldBy 0 0) (s .queued))
 
   worked : WorkedOut (freed m t)
@@ -114,7 +116,7 @@ module _ {n : ℕ} {t : Table} (h : Midway n t) (m : ℕ) (l : m < mutexCount) (
   frees : firstIn (mutexQueue m) (freed m t) ≡ 0 → Midway n (freed m t)
   frees z =
       stores-walk-keeps h
-      (mutex-stores s m (heldBy 0 0) unheld-right (λ j k e x. absurd (unwaited mutexes-placed queued m l z j k (same (λ y. y .state) j e) (same (λ y. y .object) j x))) (λ d. absurd (d refl)))
+      (mutex-stores s m (heldBy 0 0) unheld-right (λ j k e x. absurd (unwaited among-mutexes queued m l z j k (same (λ y. y .state) j e) (same (λ y. y .object) j x))) (λ d. absurd (d refl)))
       (callerOf t)
       worked
     where
@@ -142,7 +144,7 @@ module _ {n : ℕ} {t : Table} (h : Midway n t) (m : ℕ) (l : m < mutexCount) (
       there = sym (walk-place (callerOf t) free i) ∙ first-there queued (mutexQueue m) (omega arith) d
 
       waited : Waits t m i
-      waited = mutex-there (taskOf t i) m l (semaphore-range (s .tasks i r .inRange)) there
+      waited = waiter-there (taskOf t i) among-mutexes (s .tasks i r .inRange) m l there
 
       waiter : Waiter t i
       waiter = record { task = r; used = placed-used (s .tasks i r) (omega (arith, there)); state = λ e. omega (arith, waited .0) }
@@ -166,7 +168,7 @@ module _ {n : ℕ} {t : Table} (h : Midway n t) (m : ℕ) (l : m < mutexCount) (
       rests : rest u ≡ rest (withMutex m (heldBy w 1) t)
       rests = put-rest i _ _ ∙ ap (λ (x : Table). rest (withMutex m (heldBy w 1) x)) (walk-rest (callerOf t) free) ∙ rw (set-set (t .mutexes) m (heldBy 0 0) (heldBy w 1))
 
-      awake : ObjectsRight (with-mutexes (t .mutexes))
+      awake : SoundObjects (with-mutexes (t .mutexes))
       awake =
           become-objects
           (then-stored becomes (with-mutexes (t .mutexes)) refl refl)
@@ -175,9 +177,9 @@ module _ {n : ℕ} {t : Table} (h : Midway n t) (m : ℕ) (l : m < mutexCount) (
           (no-wait t i 0 0 (omega arith))
           (holder-used (s .objects) i)
 
-      objects : ObjectsRight u
+      objects : SoundObjects u
       objects =
-          subst (λ (x : List Mutex). ObjectsRight (with-mutexes x)) (sym (ap (λ (x : Table). x .mutexes) rests))
+          subst (λ (x : List Mutex). SoundObjects (with-mutexes x)) (sym (ap (λ (x : Table). x .mutexes) rests))
           (mutex-objects m (heldBy w 1) awake (held-right w 1 d (omega (arith, r)) (omega arith) (omega arith))
           (λ j k e x. record { used = refl; held = d; apart = λ z. let own : j ≡ i = omega arith in omega (arith, e, ap (λ (a : ℕ). taskOf u a .state) own, ap (λ (a : Task). a .state) (becomes .itself)) })
           (λ e. ap (λ (k : Task). k .used) (becomes .itself) ∙ waiter .used))

@@ -1,4 +1,4 @@
--- What the moves leave of the running task (`MayRunOn`), and what the choice of the first able task makes of it (`RunsRight`).
+-- What the moves leave of the running task (`MayRunOn`), and what the choice of the first able task makes of it (`SoundRuns`).
 use mathlib.Core.Path.{_≡_, refl, sym, ap, subst, _∙_}
 use mathlib.Core.Logic.{_⊎_, inl, inr, ⊎-elim, _≢_}
 use mathlib.Core.Bool.{true}
@@ -12,7 +12,7 @@ use Rattle.rules.specs.Decides.{equals}
 use Rattle.rules.specs.Move.{chosen}
 use Rattle.rules.specs.Time.{callerOf}
 use Rattle.rules.specs.declared.Task.{Task}
-use Rattle.rules.specs.Sound.{Queued, RunsRight}
+use Rattle.rules.specs.Sound.{SoundQueues, SoundRuns}
 use Rattle.laws.specs.queues.Fields.{bare-able}
 use Rattle.laws.specs.queues.Put.{whichever, pick}
 use Rattle.laws.specs.keeps.Becomes.{Becomes, becomes-each, caller}
@@ -25,13 +25,13 @@ pub record MayRunOn (t : Table) : Type 0 where
   pub range : t .running ≤ taskCount
   pub able : t .depth ≢ 0 → t .running ≢ 0 → isAble (caller t) ≡ true
 
-pub may-run-on : {t : Table} → RunsRight t → MayRunOn t
+pub may-run-on : {t : Table} → SoundRuns t → MayRunOn t
 may-run-on r = record { range = r .range; able = λ d n. ⊎-elim (λ z. absurd (n z)) (λ a. a) (r .able d) }
 
-pub chosen-runs : {t : Table} → Queued t → MayRunOn t → RunsRight (chosen t)
+pub chosen-runs : {t : Table} → SoundQueues t → MayRunOn t → SoundRuns (chosen t)
 unfolding chosen
 chosen-runs {t} q r =
-    pick RunsRight equals
+    pick SoundRuns equals
     (λ e. record { range = first-range q ableQueue (omega arith); first = λ z. refl; able = λ d. absurd (d e) })
     (λ d. record { range = r .range; first = λ z. absurd (d z); able = λ e. someone e (ℕ-discrete (t .running) 0) })
   where
@@ -45,7 +45,7 @@ unfolding chosen
 chosen-one P t same new = whichever P (eqb (t .depth) 0) new same
 
 -- Between calls the running task is able at any depth.
-pub caller-able : {t : Table} → Queued t → RunsRight t → t .running ≢ 0 → isAble (caller t) ≡ true
+pub caller-able : {t : Table} → SoundQueues t → SoundRuns t → t .running ≢ 0 → isAble (caller t) ≡ true
 caller-able {t} q r n = go (ℕ-discrete (t .depth) 0)
   where
     go : Dec (t .depth ≡ 0) → isAble (caller t) ≡ true
@@ -54,7 +54,7 @@ caller-able {t} q r n = go (ℕ-discrete (t .depth) 0)
         let e : t .running ≡ firstIn ableQueue t = r .first z in
         rw e (able-there _ (first-there q ableQueue (omega arith) (λ m. n (e ∙ m))))
 
-pub depth-runs : {t : Table} → Queued t → RunsRight t → (n : ℕ) → MayRunOn (withDepth n t)
+pub depth-runs : {t : Table} → SoundQueues t → SoundRuns t → (n : ℕ) → MayRunOn (withDepth n t)
 depth-runs q r n = record { range = r .range; able = λ d. caller-able q r }
 
 -- ---- who runs stays able

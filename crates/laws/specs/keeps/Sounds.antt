@@ -5,17 +5,18 @@ use Prim.Native.Nat.{_<_}
 use Rattle.queue.specs.Order.{count, mayPrecede, fits, isOrdered}
 use Rattle.rules.specs.Sizes.{notSound}
 use Rattle.rules.specs.Chain.{leads, smallest, fresh}
-use Rattle.rules.specs.Table.{Table, freshTable, ableQueue, firstIn, isAble, placeOf, works}
+use Rattle.rules.specs.Table.{Table, freshTable, ableQueue, firstIn, isAble, works, holderOf}
 use Rattle.rules.specs.Decides.{itself}
-use Rattle.rules.specs.Move.{holderOf, next, freshIn, chosen}
-use Rattle.rules.specs.Sound.{Sound, each, isShaped, objectsIn, marksIn, isTaskInRange, isNoTask, isNoSemaphore, isNoMutex, isTaskRight, isSemaphoreRight, isMutexRight, mayWait, isWaitRight, isObjectsRight, isQueued, isWorked, isSettled, runsRight, isSound, Settled, NotDue}
+use Rattle.rules.specs.Move.{next, freshIn, chosen}
+use Rattle.rules.specs.Sound.{Sound, each, isShaped, marksIn, isTaskInRange, isNoTask, isNoSemaphore, isNoMutex, isSoundTask, isSoundSemaphore, isSoundMutex, mayWait, isSoundWait, eachOf, isSoundObjects, isSoundQueues, isWorkedOut, isSoundWithin, isSoundRuns, isSound, SoundWithin, NotDue}
+use Rattle.rules.specs.Family.{ofState, placeOf}
 use Rattle.rules.specs.Tested.{sound-tested, tested-sound}
 use Rattle.rules.specs.Step.{answer, effect, Bounded, serve, step}
 use Rattle.rules.specs.declared.Call.{Call}
 use Rattle.laws.specs.queues.Put.{pick}
 use Rattle.laws.specs.keeps.Running.{chosen-runs, chosen-one}
 use Rattle.laws.specs.keeps.Moves.{BeforeChoice, framed-settled}
-use Rattle.laws.specs.numbers.Accepted.{accepts}
+use Rattle.laws.specs.numbers.Presumes.{accepts}
 use Rattle.laws.specs.keeps.Calls.{change-keeps}
 
 -- ---- the choice of the running task
@@ -25,7 +26,7 @@ pub chosen-sound : {t : Table} → BeforeChoice t → Sound (chosen t)
 chosen-sound {t} u =
     let h = u .settled in
     record {
-      settled = chosen-one Settled t h (framed-settled h (t .tick) (t .depth) (firstIn ableQueue t) (h .tick) (h .depth));
+      settled = chosen-one SoundWithin t h (framed-settled h (t .tick) (t .depth) (firstIn ableQueue t) (h .tick) (h .depth));
       notDue = chosen-one NotDue t (u .notDue) (u .notDue);
       runs = chosen-runs (h .queued) (u .runs);
     }
@@ -56,5 +57,5 @@ serve-small c interrupt t = accepts c interrupt t .small
 
 -- The fresh table is sound.
 pub fresh-sound : Sound freshTable
-unfolding count mayPrecede fits isOrdered leads smallest fresh freshTable isAble placeOf works holderOf next freshIn each isShaped objectsIn marksIn isTaskInRange isNoTask isNoSemaphore isNoMutex isTaskRight isSemaphoreRight isMutexRight mayWait isWaitRight isObjectsRight isQueued isWorked isSettled runsRight isSound
+unfolding count mayPrecede fits isOrdered leads smallest fresh freshTable isAble placeOf works holderOf next freshIn each isShaped ofState marksIn isTaskInRange isNoTask isNoSemaphore isNoMutex isSoundTask isSoundSemaphore isSoundMutex mayWait eachOf isSoundWait isSoundObjects isSoundQueues isWorkedOut isSoundWithin isSoundRuns isSound
 fresh-sound = tested-sound freshTable refl

@@ -17,15 +17,15 @@ use Rattle.rules.specs.Tested.{sound}
 use Rattle.rules.specs.Task.{onTask, createAnswer, deleteAnswer, priorityAnswer, suspendAnswer, resumeAnswer}
 use Rattle.rules.specs.Time.{callerOf, byCaller, yieldAnswer, delayAnswer, delayResumeAnswer}
 use Rattle.rules.specs.Lock.{lockAnswer, unlockAnswer}
-use Rattle.rules.specs.Family.{Family}
+use Rattle.rules.specs.Family.{Family, semaphores, mutexes}
 use Rattle.rules.specs.Object.{onObject, yesNo, waitAnswer, waitAnswerOn, onOne, objectCreateAnswer, objectDeleteAnswer, objectAbortAnswer}
-use Rattle.rules.specs.Semaphore.{semaphores, semaphoreWaitAnswer, semaphorePostAnswer}
-use Rattle.rules.specs.Mutex.{mutexes, mutexWaitAnswer, mutexPostAnswer}
+use Rattle.rules.specs.Semaphore.{semaphoreWaitAnswer, semaphorePostAnswer}
+use Rattle.rules.specs.Mutex.{mutexWaitAnswer, mutexPostAnswer}
 use Rattle.rules.specs.Sound.{Each, each, isSound}
 use Rattle.rules.specs.Step.{answerTo, forInterrupts, answer, serve, step}
 use Rattle.rules.specs.declared.Call.{Call}
 use Rattle.laws.specs.queues.Put.{pick}
-use Rattle.laws.specs.numbers.Accepted.{interrupted, not-not, too-great, locked, runs-locked, answers, accepts}
+use Rattle.laws.specs.numbers.Presumes.{interrupted, not-not, too-great, locked, runs-locked, answers, accepts}
 use Rattle.laws.specs.numbers.Found.{peer, holding}
 use Rattle.laws.specs.numbers.Numbers.{paperOrder, rank, Thing, countOf, numberOf, usedIn, Creates, aTask, aSemaphore, aMutex, Deletes, semaphoreDelete, mutexDelete, AsksFor, semaphoreWait, mutexWait, Aborts, semaphoreAbort, mutexAbort, On, taskDelete, changePriority, suspend, resume, delayResume, toDelete, toAsk, toAbort, semaphorePost, mutexPost, FindsNothing, counted, held, Gets, Answered}
 use Rattle.laws.specs.numbers.Numbers.{unsound, interrupts, yieldByNone, delayByNone, waitByNone, mutexPostByNone, beyond, unused, used, createBase, changeBase, badForce, badBlock, noTicks, createQuantum, nonBlocking, lockedYield, lockedDelay, lockedWait, lockedSuspend, lockedDelete, foreign, nestedMutex, nestedLock, nestedSuspend, full, unlocked, notSuspended, notDelayed, noWaiter, noPeer, hasWaiters, holder, waits, accepted}

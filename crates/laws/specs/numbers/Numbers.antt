@@ -14,9 +14,7 @@ use Rattle.queue.specs.Slots.{firstAt, same}
 use Rattle.rules.specs.Sizes.{taskCount, mutexCount, lastPriority, mostQuantum, mostNested, mostCount, delayed, done, beyondRange, notInUse, inUse, badValue, byInterrupt, noneRunning, whileLocked, nothingToTake, notItsHolder, nestedTooDeep, countFull, nothingToUndo, stillNeeded, blocks, notSound}
 use Rattle.rules.specs.Table.{Table, taskOf, semaphoreOf, mutexOf, written}
 use Rattle.rules.specs.Time.{callerOf}
-use Rattle.rules.specs.Family.{Family, waitersOf}
-use Rattle.rules.specs.Semaphore.{semaphores}
-use Rattle.rules.specs.Mutex.{mutexes}
+use Rattle.rules.specs.Family.{Family, waitersOf, semaphores, mutexes}
 use Rattle.rules.specs.Sound.{Empty, Sound}
 use Rattle.rules.specs.Step.{forInterrupts}
 use Rattle.rules.specs.declared.Call.{Call}

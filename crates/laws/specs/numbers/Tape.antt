@@ -7,18 +7,17 @@ use native.Mathlib.Nat.{one-le-pow, pow-suc, pow-le-pow-right}
 use native.Mathlib.Omega.{arith}
 use lib.ListN.{length, getD, take, drop}
 use lib.Seq.{getD-drop}
-use borrow.Author.Tests.{leb-true}
 use Rattle.queue.specs.Order.{All, none, more}
 use Rattle.rules.specs.Sizes.{ticksRound}
 use Rattle.rules.specs.Table.{Table, freshTable}
 use Rattle.rules.specs.Sound.{Sound}
 use Rattle.rules.specs.Step.{Bounded, serve, step}
-use Rattle.rules.specs.Port.{plainKind, ofKind, reading}
-use Rattle.rules.specs.Tape.{Bytes, little, widths, numbers, bodyLength, callIn, printedOf, printed, tape}
+use Rattle.rules.specs.Kinds.{kinds, plainKind, ofKind, reading, spelled, numbersOf}
+use Rattle.rules.specs.KindLaws.{Each, end, with, told-each, all-at, widths-narrow}
+use Rattle.rules.specs.Tape.{Bytes, little, numbers, bodyLength, callIn, printedOf, printed, tape}
 use Rattle.rules.specs.declared.Call.{Call}
 use Rattle.rules.specs.declared.Reading.{Reading}
 use Rattle.rules.specs.declared.Reading.the-variants.{Says, Unknown}
-use Rattle.laws.specs.queues.Put.{whichever}
 use Rattle.laws.specs.keeps.Sounds.{serve-sound, step-serve, fresh-sound}
 
 -- ---- numbers made of bytes
@@ -41,35 +40,29 @@ little-small {w} l h b = let most : 256 ^ w ≤ 256 ^ 4 = pow-le-pow-right (omeg
 
 -- ---- the call that is read
 
-abbrev Narrow : List ℕ → Type 0
-Narrow ws = All (λ w. w ≤ 4) ws
-
--- No number of a body has more than 4 bytes,
-widths-narrow : (k : ℕ) → Narrow (widths k)
-unfolding widths
-widths-narrow k = search (whichever Narrow, none, more, leb-true) depth 20
-
--- so each has 32 bits.
-numbers-small : {ws : List ℕ} (l : List ℕ) → Narrow ws → Bytes l → (i : ℕ) → getD (numbers ws l) i 0 < ticksRound
+-- No number of a body has more than 4 bytes, so each has 32 bits.
+numbers-small : (ws l : List ℕ) → ((i : ℕ) → getD ws i 0 ≤ 4) → Bytes l → (i : ℕ) → getD (numbers ws l) i 0 < ticksRound
 unfolding numbers
-numbers-small l none b i = omega arith
-numbers-small l (more h a) b zero = little-small l h b
-numbers-small l (more {x = w} h a) b (suc i) = numbers-small (drop w l) a (bytes-behind w l b) i
+numbers-small [] l four b i = omega arith
+numbers-small (w ∷ ws) l four b zero = little-small l (four 0) b
+numbers-small (w ∷ ws) l four b (suc i) = numbers-small ws (drop w l) (λ j. four (suc j)) (bytes-behind w l b) i
 
 -- The numbers of the call that a reading says have 32 bits.
-abbrev BoundedIn : Reading → Type 0
+abbrev pub BoundedIn : Reading → Type 0
 BoundedIn (Says c interrupt) = Bounded c
 BoundedIn (Unknown interrupt) = Unit {0}
 
-kind-bounded : (k : ℕ) {a b c : ℕ} (interrupt : Bool) → a < ticksRound → b < ticksRound → c < ticksRound → BoundedIn (ofKind k a b c interrupt)
-unfolding ofKind Bounded
-kind-bounded k interrupt p q r = search (whichever BoundedIn) depth 30
+bounded : (c : Call) → All (λ n. n < ticksRound) (numbersOf c) → Bounded c
+unfolding Bounded
+bounded c a = all-at {P = λ n. n < ticksRound} (omega arith) a
+
+pub kind-bounded : (k : ℕ) (ns : List ℕ) (interrupt : Bool) → ((i : ℕ) → getD ns i 0 < ticksRound) → BoundedIn (ofKind k ns interrupt)
+unfolding ofKind spelled
+kind-bounded k ns interrupt small = told-each BoundedIn kinds k _ _ (search (end, with, bounded, none, more, small) depth 40 fits 5000) tt
 
 reading-bounded : (kind : ℕ) (body : List ℕ) → Bytes body → BoundedIn (callIn kind body)
 unfolding callIn reading
-reading-bounded kind body b =
-    let small = numbers-small body (widths-narrow (plainKind kind)) b in
-    kind-bounded (plainKind kind) _ (small 0) (small 1) (small 2)
+reading-bounded kind body b = kind-bounded (plainKind kind) _ _ (numbers-small _ body (widths-narrow (plainKind kind) .four) b)
 
 -- A call that is read from bytes has numbers of 32 bits.
 pub call-bounded : (kind : ℕ) (body : List ℕ) {c : Call} {interrupt : Bool} → Bytes body → callIn kind body ≡ Says c interrupt → Bounded c

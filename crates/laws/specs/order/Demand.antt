@@ -29,8 +29,8 @@ use mathlib.Core.Bool.{true≢false}
 use Prim.Native.Nat.{_-_}
 use native.Mathlib.Omega.{arith}
 use borrow.Author.Tests.{ne-eqb}
-use Rattle.rules.specs.Table.{placeOf}
-use Rattle.rules.specs.Sound.{Queued}
+use Rattle.rules.specs.Family.{placeOf}
+use Rattle.rules.specs.Sound.{SoundQueues}
 use Rattle.laws.specs.queues.Stands.{able-place, able-stands, able-there, first-there, first-least, empty-none, none-empty}
 use Rattle.laws.specs.keeps.Always.{always, always-from}
 use Rattle.laws.specs.order.Ordering.{order-kept}
@@ -74,7 +74,7 @@ first-runs {t} s z =
       );
     }
   where
-    queued : Queued t
+    queued : SoundQueues t
     queued = s .settled .queued
 
     first : t .running ≡ firstIn ableQueue t

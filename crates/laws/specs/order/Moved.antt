@@ -14,10 +14,11 @@ use Rattle.queue.specs.Order.{those, other}
 use Rattle.queue.specs.Stable.{behind-others, without-others}
 use Rattle.rules.specs.Afresh.{lt-or-le}
 use Rattle.rules.specs.Sizes.{taskCount}
-use Rattle.rules.specs.Table.{Table, taskOf, queueOf, queueCount, ableQueue, works, placeOf, written, withWork, withLeft}
+use Rattle.rules.specs.Table.{Table, taskOf, queueOf, queueCount, ableQueue, works, written, withWork, withLeft}
+use Rattle.rules.specs.Family.{placeOf}
 use Rattle.rules.specs.Move.{stays, put, rotate, putWork, walk, freshIn}
 use Rattle.rules.specs.declared.Task.{Task}
-use Rattle.rules.specs.Sound.{Queued}
+use Rattle.rules.specs.Sound.{SoundQueues}
 use Rattle.laws.specs.queues.Put.{whichever, put-in, put-out, put-stays, rotate-in, put-each, task-put, task-put-same, part-rotate, place-same, walk-inv}
 use Rattle.laws.specs.queues.Queues.{slot-free, queue-right, put-queue, put-queued}
 use Rattle.laws.specs.order.Order.{Before}
@@ -30,7 +31,7 @@ use Rattle.laws.specs.chains.Graph.{work-fresh}
 abbrev others : ℕ → List ℕ → List ℕ
 others i l = those (other (written i)) l
 
-module _ {t : Table} (s : Queued t) (i : ℕ) (l : i < taskCount) (q : ℕ) (m : q < queueCount) where
+module _ {t : Table} (s : SoundQueues t) (i : ℕ) (l : i < taskCount) (q : ℕ) (m : q < queueCount) where
   moved-leaves : (keys : List ℕ) → others i (moved keys i (queueOf t q)) ≡ others i (queueOf t q)
   moved-leaves keys =
       behind-others keys i (without i (queueOf t q)) (slot-free (works t) (λ j. eqb (placeOf (taskOf t j)) q) i l (λ x z d. refl) (λ j d. refl) (queue-right s q m))
@@ -125,7 +126,7 @@ module _ {a b : ℕ} (two : Two a b) where
   others-kept t u i d e h q m = before-those (other (written i)) a b (two .apart) (other-passes i a d) (other-passes i b e) (h q m)
 
   -- Two tasks that stay keep their order where some task changes.
-  pub put-kept : {t : Table} (i : ℕ) (k : Task) → Queued t → Same (taskOf t a) (taskOf (put i k t) a) → Same (taskOf t b) (taskOf (put i k t) b)
+  pub put-kept : {t : Table} (i : ℕ) (k : Task) → SoundQueues t → Same (taskOf t a) (taskOf (put i k t) a) → Same (taskOf t b) (taskOf (put i k t) b)
       → (q : ℕ) → q < queueCount → Before a b (queueOf t q) → Before a b (queueOf (put i k t) q)
   put-kept {t} i k s x y q m h = ⊎-elim (λ l. go l (ℕ-discrete a i) (ℕ-discrete b i)) (λ l. rw (put-out i k t l) h) (lt-or-le i taskCount)
     where
@@ -153,7 +154,7 @@ module _ {a b : ℕ} (two : Two a b) where
         }
 
     -- Some task changes in the way that `W` says.
-    pub put-moved : {t : Table} (i : ℕ) (k : Task) → Queued t → Goes W i (taskOf t i) k → Moved W a b t (put i k t)
+    pub put-moved : {t : Table} (i : ℕ) (k : Task) → SoundQueues t → Goes W i (taskOf t i) k → Moved W a b t (put i k t)
     put-moved {t} i k s x = record { first = goes a; second = goes b; kept = put-kept i k s }
       where
         goes : (j : ℕ) → Goes W j (taskOf t j) (taskOf (put i k t) j)
@@ -166,7 +167,7 @@ module _ {a b : ℕ} (two : Two a b) where
         same : (j : ℕ) → Same (taskOf t j) (taskOf u j)
         same j = rw x (record { place = refl; work = refl })
 
-    module _ {t : Table} (i : ℕ) (d : a ≢ i) (e : b ≢ i) (s : Queued t) where
+    module _ {t : Table} (i : ℕ) (d : a ≢ i) (e : b ≢ i) (s : SoundQueues t) where
       -- Another task changes.
       pub apart-moved : (k : Task) → Moved W a b t (put i k t)
       apart-moved k = record { first = same-goes g a (same a d); second = same-goes g b (same b e); kept = put-kept i k s }
@@ -205,11 +206,11 @@ walks-oneway t = record { rests = λ a e. inl e; joins = λ a x y. join x y; squ
     squeeze (inr x) (inr y) z = x ∙ sym y ∙ z
 
 -- A walk is made of such changes.
-pub walk-moved : {a b : ℕ} → Two a b → {t : Table} (s : ℕ) → Queued t → Moved (Walks t) a b t (walk s t)
+pub walk-moved : {a b : ℕ} → Two a b → {t : Table} (s : ℕ) → SoundQueues t → Moved (Walks t) a b t (walk s t)
 walk-moved {a} {b} two {t} s h = walk-inv Walked turn s (h, refl, same-moved two (walks-oneway t) t t refl refl) .2
   where
     Walked : Table → Type 0
-    Walked u = Queued u × (freshIn u ≡ freshIn t) × Moved (Walks t) a b t u
+    Walked u = SoundQueues u × (freshIn u ≡ freshIn t) × Moved (Walks t) a b t u
 
     turn : (u : Table) (i : ℕ) → i < taskCount → Walked u → Walked (putWork u i (freshIn u i))
     turn u i l (r, f, x) =

@@ -1,6 +1,6 @@
 -- What demand 3 speaks of, as definitions: calls made one after another, and two tasks that keep their order in a queue (`OrderKept`).
 -- To read them: a task's number a stands written as a + 1 in the slots of a queue, and `placeOf` is the queue where a task stands. In a
--- sound table each task stands once in the queue of its place and in no other (the rules' `Queued`). `A → ⊥` says "not A".
+-- sound table each task stands once in the queue of its place and in no other (the rules' `SoundQueues`). `A → ⊥` says "not A".
 use mathlib.Core.Path.{_≡_}
 use mathlib.Core.Logic.{_≢_}
 use mathlib.Core.Bool.{Bool, true, false}
@@ -9,7 +9,8 @@ use Prim.Native.Nat.{ℕ, _≤_, _<_}
 use lib.ListN.{length}
 use Rattle.queue.specs.Slots.{firstAt, same}
 use Rattle.rules.specs.Sizes.{taskCount}
-use Rattle.rules.specs.Table.{Table, taskOf, queueOf, queueCount, placeOf, isAble, written}
+use Rattle.rules.specs.Table.{Table, taskOf, queueOf, queueCount, isAble, written}
+use Rattle.rules.specs.Family.{placeOf}
 use Rattle.rules.specs.Step.{Bounded, step}
 use Rattle.rules.specs.declared.Task.{Task}
 use Rattle.rules.specs.declared.Call.{Call}

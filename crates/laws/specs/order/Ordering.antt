@@ -6,21 +6,23 @@ use Prim.Native.Nat.{ℕ, _+_, _-_, _≤_, _<_}
 use native.Mathlib.Omega.{arith}
 use lib.Dec.{ltb}
 use Rattle.rules.specs.Sizes.{taskCount, semaphoreCount, mutexCount, given, aborted, objectDeleted}
-use Rattle.rules.specs.Table.{Table, taskOf, mutexOf, semaphoreOf, queueOf, queueCount, ableQueue, mutexQueue, firstIn, placeOf, written, noTask, counting, heldBy, withBase, withState, withMutex}
+use Rattle.rules.specs.Table.{Table, taskOf, mutexOf, semaphoreOf, queueOf, queueCount, ableQueue, mutexQueue, firstIn, written, noTask, counting, heldBy, withBase, withState, withMutex}
 use Rattle.rules.specs.Decides.{equals, itself}
 use Rattle.rules.specs.Move.{put, walk, next, ended}
 use Rattle.rules.specs.Task.{create, delete, changePriority, suspend, resume}
 use Rattle.rules.specs.Time.{callerOf, yield, delay, delayResume}
 use Rattle.rules.specs.Lock.{lock, unlock}
-use Rattle.rules.specs.Family.{Family, waitersOf}
+use Rattle.rules.specs.Family.{Family, waitersOf, semaphores, placeOf}
 use Rattle.rules.specs.Object.{emptied, limited, blocked, waits, taken, abort, objectAbort, objectDelete}
-use Rattle.rules.specs.Semaphore.{semaphores, semaphoreCreate, semaphoreWait, semaphorePost}
+use Rattle.rules.specs.Semaphore.{semaphoreCreate, semaphoreWait, semaphorePost}
 use Rattle.rules.specs.Mutex.{isHeld, isOwn, mutexCreate, mutexWait, mutexPost}
+use Rattle.rules.specs.Kinds.{toldIn, spelled}
 use Rattle.rules.specs.Step.{changeBy, forInterrupts, answer, effect, changes, serve, step}
-use Rattle.rules.specs.Sound.{Sound, Queued}
+use Rattle.rules.specs.Sound.{Sound, SoundQueues}
 use Rattle.rules.specs.declared.Task.{Task}
 use Rattle.rules.specs.declared.Call.{Call}
 use Rattle.rules.specs.declared.Call.the-variants.{TaskCreate, TaskDelete, ChangePriority, Suspend, Resume, Yield, Delay, DelayResume, Lock, Unlock, Tick, SemaphoreCreate, SemaphoreDelete, SemaphoreWait, SemaphorePost, SemaphoreAbort, MutexCreate, MutexDelete, MutexWait, MutexPost, MutexAbort}
+use Rattle.laws.specs.queues.Rows.{waiting, first-queue, last-queue}
 use Rattle.laws.specs.queues.Stands.{free-place, not-able, first-there, able-stands}
 use Rattle.laws.specs.queues.Put.{whichever, pick, pick-not, task-put-same, place-same, sized}
 use Rattle.laws.specs.queues.Fields.{walk-place}
@@ -28,7 +30,7 @@ use Rattle.laws.specs.chains.Graph.{worked-walk}
 use Rattle.laws.specs.keeps.Becomes.{caller, freed, given-to, released-one}
 use Rattle.laws.specs.queues.Queues.{put-queued, walk-queued, semaphore-queued, mutex-queued}
 use Rattle.laws.specs.keeps.Running.{caller-able, chosen-one}
-use Rattle.laws.specs.numbers.Accepted.{Accepted, accepts}
+use Rattle.laws.specs.numbers.Presumes.{Presumes, accepts}
 use Rattle.laws.specs.keeps.Sounds.{step-serve}
 use Rattle.laws.specs.order.Order.{Before, Stayed, Rotated, yields, OrderKept}
 use Rattle.laws.specs.order.Moved.{Two, Same, Oneway, same-goes, Moved, Walks, walks-oneway, put-kept, moved-on, put-moved, same-moved, apart-moved, rotate-moved, walk-moved}
@@ -67,11 +69,11 @@ module _ {q a b : ℕ} (m : q < queueCount) (two : Two a b) where
   moved-kept x y z = x .kept (stays-same y) (stays-same z) q m
 
   -- One task changes.
-  one-kept : {t : Table} (i : ℕ) (k : Task) → Queued t → KeepsOrder q a b t (put i k t)
+  one-kept : {t : Table} (i : ℕ) (k : Task) → SoundQueues t → KeepsOrder q a b t (put i k t)
   one-kept i k s x y = put-kept two i k s (stays-same x) (stays-same y) q m
 
   -- One task changes that does not stay in queue q, and its chain moves.
-  chain-kept : {t : Table} (i : ℕ) (k : Task) (w : ℕ) → Queued t → (placeOf (taskOf t i) ≡ q → placeOf k ≡ q → ⊥) → KeepsOrder q a b t (walk w (put i k t))
+  chain-kept : {t : Table} (i : ℕ) (k : Task) (w : ℕ) → SoundQueues t → (placeOf (taskOf t i) ≡ q → placeOf k ≡ q → ⊥) → KeepsOrder q a b t (walk w (put i k t))
   chain-kept {t} i k w s d x y =
       moved-kept
       (moved-on two (walks-oneway left) (apart-moved two (walks-oneway left) i (far (two .first) x) (far (two .second) y) s k) (walk-moved two w (put-queued i k s)))
@@ -85,7 +87,7 @@ module _ {q a b : ℕ} (m : q < queueCount) (two : Two a b) where
       far l z e = d (rw e at (z .was)) (sym (walk-place w left i ∙ ap placeOf (task-put-same i k t (rw e at l) (s .shaped .tasks))) ∙ rw e at (z .is))
 
   module _ {t : Table} (s : Sound t) where
-    queued : Queued t
+    queued : SoundQueues t
     queued = s .settled .queued
 
     delete-kept : (i : ℕ) → KeepsOrder q a b t (delete i t)
@@ -103,7 +105,7 @@ module _ {q a b : ℕ} (m : q < queueCount) (two : Two a b) where
         (put-moved two g i k queued (same-goes g i (record { place = place-same (taskOf t i) k refl refl refl refl; work = refl })))
         (walk-moved two i (put-queued i k queued)))
 
-    yield-kept : Accepted Yield t → (Rotated Yield false t a → ⊥) → (Rotated Yield false t b → ⊥) → KeepsOrder q a b t (yield t)
+    yield-kept : Presumes Yield t → (Rotated Yield false t a → ⊥) → (Rotated Yield false t b → ⊥) → KeepsOrder q a b t (yield t)
     unfolding yield
     yield-kept (c, z, p) x y = moved-kept (rotate-moved two rises-oneway i (λ e. x (rw e rotated)) (λ e. y (rw e rotated)) queued (omega (arith, s .runs .range)))
       where
@@ -127,8 +129,8 @@ module _ {q a b : ℕ} (m : q < queueCount) (two : Two a b) where
     unfolding objectDelete
     objectDelete-kept {f} k o l =
         let p = waitersOf f o in
-        let n : p < queueCount = omega (arith, k .placed .range) in
-        let d : p ≢ ableQueue = λ e. omega (arith, k .placed .queues) in
+        let n : p < queueCount = omega (arith, last-queue (k .among)) in
+        let d : p ≢ ableQueue = λ e. omega (arith, first-queue (k .among)) in
         let e = emptied-all p n d (sound-before s) in
         let x = k .goes (e .midway .settled) o l (e .empty) in
         let v = stored-keeps (e .midway) x .settled in
@@ -166,7 +168,7 @@ module _ {q a b : ℕ} (m : q < queueCount) (two : Two a b) where
 
     -- ---- waits
 
-    taken-kept : {u : Table} → Queued u → KeepsOrder q a b u (taken u)
+    taken-kept : {u : Table} → SoundQueues u → KeepsOrder q a b u (taken u)
     unfolding taken
     taken-kept r = one-kept _ _ r
 
@@ -176,7 +178,7 @@ module _ {q a b : ℕ} (m : q < queueCount) (two : Two a b) where
     waits-kept {f} n o limit r =
         let k = withState (f .state) o (limited limit t (caller t)) in
         chain-kept (callerOf t) k (f .holder t o) queued
-        (λ x y. not-able k (λ e. omega (arith, n .waiting)) (y ∙ sym x ∙ able-stands (caller t) (caller-able queued (s .runs) r)))
+        (λ x y. not-able k (λ e. omega (arith, waiting (n .among))) (y ∙ sym x ∙ able-stands (caller t) (caller-able queued (s .runs) r)))
 
     semaphoreWait-kept : (n limit : ℕ) → t .running ≢ 0 → KeepsOrder q a b t (semaphoreWait n limit t)
     unfolding semaphoreWait
@@ -196,9 +198,9 @@ module _ {q a b : ℕ} (m : q < queueCount) (two : Two a b) where
     -- ---- all calls
 
     -- Of a call that is accepted; an interrupt's yield is not.
-    change-kept : (c : Call) (interrupt : Bool) → changes (answer c interrupt t) ≡ true → Accepted c t
+    change-kept : (c : Call) (interrupt : Bool) → changes (answer c interrupt t) ≡ true → Presumes c t
         → (Rotated c interrupt t a → ⊥) → (Rotated c interrupt t b → ⊥) → KeepsOrder q a b t (changeBy c t)
-    unfolding answer forInterrupts changeBy create suspend resume delay delayResume lock unlock semaphoreCreate mutexCreate
+    unfolding answer toldIn spelled forInterrupts changeBy create suspend resume delay delayResume lock unlock semaphoreCreate mutexCreate
     change-kept (TaskCreate i base quantum) by e h x y = one-kept i _ queued
     change-kept (TaskDelete i) by e h x y = delete-kept i
     change-kept (ChangePriority i base) by e h x y = priority-kept i base

@@ -10,11 +10,12 @@ use Rattle.rules.specs.Sizes.{taskCount, ticksRound, waitsSemaphore, objectDele
 use Rattle.rules.specs.Chain.{Leads, Ends, fresh}
 use Rattle.rules.specs.Afresh.{more, fresh-is}
 use Rattle.rules.specs.Decides.{equals, either, both}
-use Rattle.rules.specs.Table.{Table, taskOf, queueCount, ableQueue, firstIn, placeOf, isAble, withLeft, withTick}
-use Rattle.rules.specs.Move.{put, rotate, walk, next, baseOf, holderOf, away, ready, ended, endedAll}
+use Rattle.rules.specs.Table.{Table, taskOf, queueCount, ableQueue, firstIn, isAble, withLeft, withTick, holderOf}
+use Rattle.rules.specs.Family.{placeOf}
+use Rattle.rules.specs.Move.{put, rotate, walk, next, baseOf, away, ready, ended, endedAll}
 use Rattle.rules.specs.Time.{callerOf}
 use Rattle.rules.specs.Tick.{turned, dueEnded, dueBelow, ticked}
-use Rattle.rules.specs.Sound.{Sound, Queued, Settled}
+use Rattle.rules.specs.Sound.{Sound, SoundQueues, SoundWithin}
 use Rattle.rules.specs.declared.Task.{Task}
 use Rattle.rules.specs.declared.Call.the-variants.{Tick}
 use Rattle.laws.specs.queues.Put.{sized, pick, able-left, task-put-same, part-put, place-same}
@@ -54,7 +55,7 @@ ended-urgency {n} {t} {i} h w outcome o j l =
     let v = ended-keeps h w outcome o .settled in
     omega (arith, worked-computed t (sized s) (s .worked) j l, worked-computed u (sized v) (v .worked) j l, fewer (ends-sized t (sized s)) (ends-sized u (sized v)) waits bases j l)
   where
-    s : Settled t
+    s : SoundWithin t
     s = h .settled
 
     u : Table
@@ -93,7 +94,7 @@ freed-onward {k} {m} d (inr e) =
 -- A task that is not able waits no more.
 pub freed-goes : {W : ℕ → ℕ → ℕ → Type 0} → Oneway W → (i : ℕ) {k m : Task} → placeOf k ≢ ableQueue → m .state < waitsSemaphore → m .work ≡ k .work → Goes W i k m
 freed-goes g i {k} {m} d l work =
-    record { work = g .rests i work; place = freed-onward d (no-waiter m (λ e. omega arith) (λ e. omega arith)) }
+    record { work = g .rests i work; place = freed-onward d (no-waiter m (omega arith)) }
 
 -- ---- waits that end
 
@@ -119,7 +120,7 @@ module _ {a b : ℕ} (two : Two a b) where
       (moved-on two g (walk-moved two (next t i) (put-queued i k q)) (put-moved two g i _ (walk-queued (next t i) (put-queued i k q)) (freed-goes g i still (omega arith) refl))))
       (ended-urgency h w outcome o)
     where
-      q : Queued t
+      q : SoundQueues t
       q = h .settled .queued
 
       k : Task
@@ -153,7 +154,7 @@ module _ {a b : ℕ} (two : Two a b) where
 -- ---- a tick
 
 module _ (interrupt : Bool) {a b : ℕ} (two : Two a b) where
-  turned-rises : {t : Table} → Queued t → callerOf t < taskCount → (Rotated Tick interrupt t a → ⊥) → (Rotated Tick interrupt t b → ⊥) → Moved Rises a b t (turned t)
+  turned-rises : {t : Table} → SoundQueues t → callerOf t < taskCount → (Rotated Tick interrupt t a → ⊥) → (Rotated Tick interrupt t b → ⊥) → Moved Rises a b t (turned t)
   unfolding turned
   turned-rises {t} f l x y =
       pick (Moved Rises a b t) (either equals equals)

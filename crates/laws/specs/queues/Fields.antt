@@ -3,7 +3,8 @@ use mathlib.Core.Path.{_≡_, refl, sym, ap, _∙_}
 use mathlib.Core.List.{[]}
 use Prim.Native.Nat.{ℕ}
 use lib.ListN.{length, length-set}
-use Rattle.rules.specs.Table.{Table, taskOf, isAble, placeOf, withWork}
+use Rattle.rules.specs.Table.{Table, taskOf, isAble, withWork, withTasks, withSemaphores, withMutexes, withQueues, withTick, withDepth, withRunning}
+use Rattle.rules.specs.Family.{ofState, placeOf}
 use Rattle.rules.specs.Move.{put, rotate, walk, ended}
 use Rattle.rules.specs.declared.Task.{Task}
 use Rattle.laws.specs.queues.Put.{put-any, rotate-any, part-put, walk-keeps}
@@ -12,15 +13,14 @@ use Rattle.laws.specs.queues.Put.{put-any, rotate-any, part-put, walk-ke
 
 -- A table without its tasks and queues; without its objects too.
 abbrev pub rest : Table → Table
-rest t = record { tasks = []; semaphores = t .semaphores; mutexes = t .mutexes; queues = []; tick = t .tick; depth = t .depth; running = t .running }
+rest t = withTasks [] (withQueues [] t)
 
 abbrev pub frame : Table → Table
-frame t = record { tasks = []; semaphores = []; mutexes = []; queues = []; tick = t .tick; depth = t .depth; running = t .running }
+frame t = withSemaphores [] (withMutexes [] (rest t))
 
 -- The same lists, in another frame: `withTick`, `withDepth` and `withRunning` are such.
 abbrev pub framed : (tick depth running : ℕ) → Table → Table
-framed tick depth running t =
-    record { tasks = t .tasks; semaphores = t .semaphores; mutexes = t .mutexes; queues = t .queues; tick = tick; depth = depth; running = running }
+framed tick depth running t = withTick tick (withDepth depth (withRunning running t))
 
 -- A task without its working priority.
 abbrev pub bare : Task → Task
@@ -32,7 +32,7 @@ unfolding isAble
 bare-able k = refl
 
 pub bare-place : (k : Task) → placeOf (bare k) ≡ placeOf k
-unfolding placeOf isAble
+unfolding placeOf ofState isAble
 bare-place k = refl
 
 -- ---- put

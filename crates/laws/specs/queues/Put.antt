@@ -15,9 +15,10 @@ use Rattle.queue.specs.Lengths.{length-behind, length-without, length-moved}
 use Rattle.rules.specs.Decides.{Decides}
 use Rattle.rules.specs.Afresh.{lt-or-le}
 use Rattle.rules.specs.Sizes.{taskCount}
-use Rattle.rules.specs.Table.{Table, taskOf, queueOf, queueCount, ableQueue, works, placeOf, isAble, noTask, withTask, withQueue, withLeft}
+use Rattle.rules.specs.Table.{Table, taskOf, queueOf, queueCount, ableQueue, works, isAble, noTask, withTask, withQueue, withLeft}
+use Rattle.rules.specs.Family.{ofState, placeOf}
 use Rattle.rules.specs.Move.{leave, join, stays, put, rotate, putWork, walk, next, freshIn}
-use Rattle.rules.specs.Sound.{Shaped, Settled}
+use Rattle.rules.specs.Sound.{Shaped, SoundWithin}
 use Rattle.rules.specs.declared.Task.{Task}
 use Rattle.laws.specs.chains.Walk.{walkOn-inv, walkOn-keeps}
 
@@ -159,7 +160,7 @@ part-rotate f same i t j = rotate-any (λ u. f (taskOf u j) ≡ f (taskOf t j)) 
 
 -- Four numbers of a task say where it stands.
 pub place-same : (k m : Task) → m .used ≡ k .used → m .state ≡ k .state → m .suspend ≡ k .suspend → m .object ≡ k .object → placeOf m ≡ placeOf k
-unfolding placeOf isAble
+unfolding placeOf ofState isAble
 place-same k m u s p o = rw (u, s, p, o)
 
 -- What is left of a quantum does not make a task able.
@@ -210,7 +211,7 @@ pub rotate-shaped : {t : Table} (i : ℕ) → Shaped t → Shaped (rotate i t)
 rotate-shaped {t} i s = rotate-any Shaped queue-shaped i t s (task-shaped i _ s)
 
 -- A table with right queues has all its tasks.
-pub sized : {t : Table} → Settled t → length (t .tasks) ≡ taskCount
+pub sized : {t : Table} → SoundWithin t → length (t .tasks) ≡ taskCount
 sized s = s .queued .shaped .tasks
 
 -- ---- the walk

@@ -19,9 +19,10 @@ use Rattle.queue.specs.Keeps.{all-opened, all-closed, Agree, without-ordered, o
 use Rattle.queue.specs.Stable.{without-absent}
 use Rattle.rules.specs.Afresh.{lt-or-le}
 use Rattle.rules.specs.Sizes.{taskCount}
-use Rattle.rules.specs.Table.{Table, taskOf, queueOf, queueCount, ableQueue, works, placeOf, isAble, written, withTask, withSemaphore, withMutex, withQueue, withLeft}
+use Rattle.rules.specs.Table.{Table, taskOf, queueOf, queueCount, ableQueue, works, isAble, written, withTask, withSemaphore, withMutex, withQueue, withLeft}
+use Rattle.rules.specs.Family.{placeOf}
 use Rattle.rules.specs.Move.{leave, join, stays, put, rotate, walk}
-use Rattle.rules.specs.Sound.{Each, once, Shaped, Queued}
+use Rattle.rules.specs.Sound.{Each, once, Shaped, SoundQueues}
 use Rattle.rules.specs.Tested.{once-most}
 use Rattle.rules.specs.declared.Task.{Task}
 use Rattle.rules.specs.declared.Semaphore.{Semaphore}
@@ -103,10 +104,10 @@ same-right e same r = record { slots = r .slots; counted = λ j m. r .counted j 
 abbrev standsIn : Table → ℕ → ℕ → Bool
 standsIn t q j = eqb (placeOf (taskOf t j)) q
 
-pub queue-right : {t : Table} → Queued t → (q : ℕ) → q < queueCount → QueueRight (works t) (standsIn t q) (queueOf t q)
+pub queue-right : {t : Table} → SoundQueues t → (q : ℕ) → q < queueCount → QueueRight (works t) (standsIn t q) (queueOf t q)
 queue-right s q m = record { slots = s .shaped .slots q m; counted = s .places q m; inside = s .nothingElse q m; ordered = s .ordered q m }
 
-right-queued : {t : Table} → Shaped t → ((q : ℕ) → q < queueCount → QueueRight (works t) (standsIn t q) (queueOf t q)) → Queued t
+right-queued : {t : Table} → Shaped t → ((q : ℕ) → q < queueCount → QueueRight (works t) (standsIn t q) (queueOf t q)) → SoundQueues t
 right-queued s r = record { shaped = s; places = λ q m. r q m .counted; nothingElse = λ q m. r q m .inside; ordered = λ q m. r q m .ordered }
 
 -- ---- put
@@ -130,7 +131,7 @@ unfolding join
 join-queue p i q t = changed-queue (behind (works t) i) p q t
 
 -- The one queue where task i may stand is without it.
-left-queue : {t : Table} (i : ℕ) (k : Task) (q : ℕ) → i < taskCount → q < queueCount → Queued t
+left-queue : {t : Table} (i : ℕ) (k : Task) (q : ℕ) → i < taskCount → q < queueCount → SoundQueues t
     → queueOf (leave (placeOf (taskOf t i)) i (withTask i k t)) q ≡ without i (queueOf t q)
 left-queue {t} i k q l m s = leave-queue (placeOf (taskOf t i)) i q (withTask i k t) m (s .shaped .queues) ∙ go (standsIn t q i) refl
   where
@@ -139,7 +140,7 @@ left-queue {t} i k q l m s = leave-queue (placeOf (taskOf t i)) i q (withTask i 
     go false e = sym (without-absent i (queueOf t q) (stands-count (written i) (queueOf t q) (s .places q m i l ∙ ap once e)))
 
 -- A task that moves stands in the queue of its place, and in no other.
-shifted-queue : {t : Table} (i : ℕ) (k : Task) (q : ℕ) → i < taskCount → q < queueCount → Queued t
+shifted-queue : {t : Table} (i : ℕ) (k : Task) (q : ℕ) → i < taskCount → q < queueCount → SoundQueues t
     → queueOf (shifted i k t) q ≡ cond (eqb (placeOf k) q) (moved (works (withTask i k t)) i (queueOf t q)) (without i (queueOf t q))
 unfolding works
 shifted-queue {t} i k q l m s =
@@ -149,7 +150,7 @@ shifted-queue {t} i k q l m s =
     left : Table
     left = leave (placeOf (taskOf t i)) i (withTask i k t)
 
-pub put-queue : {t : Table} (i : ℕ) (k : Task) (q : ℕ) → i < taskCount → q < queueCount → Queued t → stays (taskOf t i) k ≡ false
+pub put-queue : {t : Table} (i : ℕ) (k : Task) (q : ℕ) → i < taskCount → q < queueCount → SoundQueues t → stays (taskOf t i) k ≡ false
     → queueOf (put i k t) q ≡ cond (eqb (placeOf k) q) (moved (works (put i k t)) i (queueOf t q)) (without i (queueOf t q))
 unfolding works
 put-queue {t} i k q l m s e = rw (put-stored i k t l .tasks) (ap (λ u. queueOf u q) (put-moves i k t l e) ∙ shifted-queue i k q l m s)
@@ -159,7 +160,7 @@ others-agree : (i : ℕ) (k : Task) (t : Table) → i < taskCount → Agree (wor
 others-agree i k t l x z d = rw (works-put i k t l) (getD-set-other (works t) i (x - 1) (k .work) 0 (λ e. d (omega arith)))
 
 -- Whatever a task becomes, it stands in the queue of its place.
-pub put-queued : {t : Table} (i : ℕ) (k : Task) → Queued t → Queued (put i k t)
+pub put-queued : {t : Table} (i : ℕ) (k : Task) → SoundQueues t → SoundQueues (put i k t)
 unfolding stays
 put-queued {t} i k s = ⊎-elim (λ l. right-queued (put-shaped i k (s .shaped)) (λ q m. right l q m)) (λ l. rw (put-out i k t l) s) (lt-or-le i taskCount)
   where
@@ -195,13 +196,13 @@ put-queued {t} i k s = ⊎-elim (λ l. right-queued (put-shaped i k (s .shaped))
         go true p false w = moves l q m (rw (p, w))
         go false p b w = moves l q m (rw p)
 
-pub walk-queued : {t : Table} (s : ℕ) → Queued t → Queued (walk s t)
-walk-queued s h = walk-inv Queued (λ t i l r. put-queued i _ r) s h
+pub walk-queued : {t : Table} (s : ℕ) → SoundQueues t → SoundQueues (walk s t)
+walk-queued s h = walk-inv SoundQueues (λ t i l r. put-queued i _ r) s h
 
 -- ---- rotate
 
 -- The able task i goes behind its equals.
-pub rotate-queued : {t : Table} (i : ℕ) → Queued t → i < taskCount → isAble (taskOf t i) ≡ true → Queued (rotate i t)
+pub rotate-queued : {t : Table} (i : ℕ) → SoundQueues t → i < taskCount → isAble (taskOf t i) ≡ true → SoundQueues (rotate i t)
 rotate-queued {t} i s l able = right-queued (rotate-shaped i (s .shaped)) (λ q m. right q m (ℕ-discrete ableQueue q))
   where
     same : (q j : ℕ) → standsIn (rotate i t) q j ≡ standsIn t q j
@@ -223,8 +224,8 @@ rotate-queued {t} i s l able = right-queued (rotate-shaped i (s .shaped)) (λ q 
 
 -- ---- all that leaves tasks and queues as they are
 
-pub same-queued : {t u : Table} → Queued t → u .tasks ≡ t .tasks → u .queues ≡ t .queues → length (u .semaphores) ≡ length (t .semaphores) → length (u .mutexes) ≡ length (t .mutexes)
-    → Queued u
+pub same-queued : {t u : Table} → SoundQueues t → u .tasks ≡ t .tasks → u .queues ≡ t .queues → length (u .semaphores) ≡ length (t .semaphores) → length (u .mutexes) ≡ length (t .mutexes)
+    → SoundQueues u
 unfolding works
 same-queued {t} {u} s tasks queues semaphores mutexes =
     record {
@@ -241,8 +242,8 @@ same-queued {t} {u} s tasks queues semaphores mutexes =
       ordered = rw (tasks, queues) (s .ordered);
     }
 
-pub semaphore-queued : {t : Table} (s : ℕ) (x : Semaphore) → Queued t → Queued (withSemaphore s x t)
+pub semaphore-queued : {t : Table} (s : ℕ) (x : Semaphore) → SoundQueues t → SoundQueues (withSemaphore s x t)
 semaphore-queued {t} s x h = same-queued h refl refl (length-set (t .semaphores) s x) refl
 
-pub mutex-queued : {t : Table} (m : ℕ) (x : Mutex) → Queued t → Queued (withMutex m x t)
+pub mutex-queued : {t : Table} (m : ℕ) (x : Mutex) → SoundQueues t → SoundQueues (withMutex m x t)
 mutex-queued {t} m x h = same-queued h refl refl refl (length-set (t .mutexes) m x)

@@ -13,17 +13,16 @@ use Rattle.queue.specs.Slots.{keyOf}
 use Rattle.queue.specs.Order.{All, none, more, Ordered, empty, front, count}
 use Rattle.queue.specs.Keeps.{key-own}
 use Rattle.queue.specs.Stands.{one-other, stands-at, stands-some}
-use Rattle.rules.specs.Sizes.{taskCount, semaphoreCount, mutexCount, plain, delayed, waitsSemaphore, waitsMutex}
-use Rattle.rules.specs.Table.{Table, taskOf, queueOf, queueCount, ableQueue, semaphoreQueue, mutexQueue, firstIn, works, isAble, placeOf, written, noTask}
+use Rattle.rules.specs.Sizes.{taskCount, plain, delayed}
+use Rattle.rules.specs.Table.{Table, taskOf, queueOf, queueCount, ableQueue, firstIn, works, isAble, written, noTask}
 use Rattle.rules.specs.Decides.{Decides, equals, first, last}
-use Rattle.rules.specs.Family.{Family, waitersOf}
-use Rattle.rules.specs.Semaphore.{semaphores}
-use Rattle.rules.specs.Mutex.{mutexes}
-use Rattle.rules.specs.Sound.{Empty, once, objectsIn, TaskInRange, TasksRight, MayWait, OfEach, ObjectsRight, Queued, TaskRight}
+use Rattle.rules.specs.Family.{Family, waitersOf, families, Among, ofState, objectsIn, placeOf}
+use Rattle.rules.specs.Sound.{Empty, once, TaskInRange, SoundTasks, MayWait, SoundObjects, SoundQueues, SoundTask}
 use Rattle.rules.specs.declared.Task.{Task}
+use Rattle.laws.specs.queues.Rows.{Found, one, nobody, found, waiting, first-queue, last-queue, by-state, numbers, one-queue}
 use Rattle.laws.specs.queues.Put.{work-at}
 
--- ---- able tasks, and the four places
+-- ---- able tasks, and where a task may stand
 
 pub record Able (k : Task) : Type 0 where
   pub used : k .used ≡ 1
@@ -34,48 +33,19 @@ pub able : (k : Task) → Decides (isAble k) (Able k)
 unfolding isAble
 able k = first (λ a. a .used) equals λ used. first (λ a. a .state) equals λ state. last (λ a. a .suspend) equals λ suspend. record { used = used; state = state; suspend = suspend }
 
--- The able tasks are those whose place is the able queue.
-pub able-place : (k : Task) → isAble k ≡ eqb (placeOf k) ableQueue
-unfolding placeOf
-able-place k = go (isAble k) (eqb (k .state) waitsSemaphore) (eqb (k .state) waitsMutex)
-  where
-    go : (a b c : Bool) → a ≡ eqb (cond a ableQueue (cond b (semaphoreQueue (k .object)) (cond c (mutexQueue (k .object)) queueCount))) ableQueue
-    go true b c = refl
-    go false true c = sym (ne-eqb (semaphoreQueue (k .object)) ableQueue (λ e. omega arith))
-    go false false true = sym (ne-eqb (mutexQueue (k .object)) ableQueue (λ e. omega arith))
-    go false false false = refl
-
 -- A free number stands in no queue.
 pub free-place : placeOf noTask ≡ queueCount
-unfolding placeOf isAble
+unfolding placeOf ofState isAble
 free-place = refl
 
 pub data Place (k : Task) : Type 0 where
   ready : isAble k ≡ true → placeOf k ≡ ableQueue → Place k
-  forSemaphore : k .state ≡ waitsSemaphore → placeOf k ≡ semaphoreQueue (k .object) → Place k
-  forMutex : k .state ≡ waitsMutex → placeOf k ≡ mutexQueue (k .object) → Place k
-  nowhere : isAble k ≡ false → k .state ≢ waitsSemaphore → k .state ≢ waitsMutex → placeOf k ≡ queueCount → Place k
-
-pub place : (k : Task) → Place k
-unfolding placeOf
-place k = go (isAble k) (eqb (k .state) waitsSemaphore) (eqb (k .state) waitsMutex) refl refl refl
-  where
-    go : (a b c : Bool) → isAble k ≡ a → eqb (k .state) waitsSemaphore ≡ b → eqb (k .state) waitsMutex ≡ c → Place k
-    go true b c d e f = ready d (rw d)
-    go false true c d e f = forSemaphore (eqb-true _ _ e) (rw (d, e))
-    go false false true d e f = forMutex (eqb-true _ _ f) (rw (d, e, f))
-    go false false false d e f = nowhere d (eqb-false _ _ e) (eqb-false _ _ f) (rw (d, e, f))
+  waits : (f : Family) → Among f families → k .state ≡ f .state → placeOf k ≡ waitersOf f (k .object) → Place k
+  nowhere : isAble k ≡ false → ((f : Family) → Among f families → k .state ≢ f .state) → placeOf k ≡ queueCount → Place k
 
 module _ (k : Task) where
-  -- Who is able stands in the able queue, and who stands there is able.
-  pub able-stands : isAble k ≡ true → placeOf k ≡ ableQueue
-  able-stands a = eqb-true _ _ (sym (able-place k) ∙ a)
-
-  pub able-there : placeOf k ≡ ableQueue → isAble k ≡ true
-  able-there e = able-place k ∙ eq-eqb _ _ e
-
   -- Whoever is not plain stands where the state says.
-  state-place : k .state ≢ plain → placeOf k ≡ cond (eqb (k .state) waitsSemaphore) (semaphoreQueue (k .object)) (cond (eqb (k .state) waitsMutex) (mutexQueue (k .object)) queueCount)
+  state-place : k .state ≢ plain → placeOf k ≡ ofState families (k .state) (λ f. waitersOf f (k .object)) queueCount
   unfolding placeOf
   state-place n = rw (unable (isAble k) refl)
     where
@@ -84,63 +54,78 @@ module _ (k : Task) where
       unable false a = a
 
   -- Who waits for an object stands in its queue,
-  pub semaphore-place : k .state ≡ waitsSemaphore → placeOf k ≡ semaphoreQueue (k .object)
-  semaphore-place e = state-place (omega arith) ∙ rw e
+  pub waiter-place : {f : Family} → Among f families → k .state ≡ f .state → placeOf k ≡ waitersOf f (k .object)
+  waiter-place {f} a e = state-place (λ z. omega (arith, waiting a)) ∙ rw e (by-state a (λ g. waitersOf g (k .object)) queueCount)
 
-  pub mutex-place : k .state ≡ waitsMutex → placeOf k ≡ mutexQueue (k .object)
-  mutex-place e = state-place (omega arith) ∙ rw e
+  pub place : Place k
+  unfolding placeOf
+  place = go (isAble k) refl (found (k .state))
+    where
+      go : (b : Bool) → isAble k ≡ b → Found families (k .state) → Place k
+      go true e x = ready e (rw e)
+      go false e (one f a s) = waits f a s (waiter-place a s)
+      go false e (nobody d z) = nowhere e d (rw e (z _ _))
+
+  -- Who is able stands in the able queue, and who stands there is able.
+  pub able-place : isAble k ≡ eqb (placeOf k) ableQueue
+  able-place = go place
+    where
+      go : Place k → isAble k ≡ eqb (placeOf k) ableQueue
+      go (ready a p) = a ∙ sym (eq-eqb _ _ p)
+      go (waits f a s p) = not-able (isAble k) refl ∙ sym (ne-eqb (placeOf k) ableQueue (λ e. omega (arith, first-queue a)))
+        where
+          not-able : (b : Bool) → isAble k ≡ b → isAble k ≡ false
+          not-able true e = absurd (omega (arith, waiting a, able k .holds e .state))
+          not-able false e = e
+      go (nowhere a d p) = a ∙ sym (ne-eqb (placeOf k) ableQueue (λ e. omega arith))
+
+  pub able-stands : isAble k ≡ true → placeOf k ≡ ableQueue
+  able-stands a = eqb-true _ _ (sym able-place ∙ a)
+
+  pub able-there : placeOf k ≡ ableQueue → isAble k ≡ true
+  able-there e = able-place ∙ eq-eqb _ _ e
 
   -- who is delayed stands in none,
   pub delayed-place : k .state ≡ delayed → placeOf k ≡ queueCount
+  unfolding ofState
   delayed-place e = state-place (omega arith) ∙ rw e
 
-  -- and who stands in the queue of an object waits for it, a semaphore or a mutex.
-  object-there : {P : Type 0} → placeOf k < queueCount → placeOf k ≢ ableQueue → (k .state ≡ waitsSemaphore → placeOf k ≡ semaphoreQueue (k .object) → P)
-      → (k .state ≡ waitsMutex → placeOf k ≡ mutexQueue (k .object) → P) → P
-  object-there {P} l d semaphore mutex = go (place k)
-    where
-      go : Place k → P
-      go (ready a p) = absurd (d p)
-      go (forSemaphore a p) = semaphore a p
-      go (forMutex a p) = mutex a p
-      go (nowhere a b c p) = absurd (omega arith)
-
+  -- and who stands in the queue of an object waits for it.
   pub waits-there : placeOf k < queueCount → placeOf k ≢ ableQueue → k .state ≢ plain
-  waits-there l d = object-there l d (λ a p. omega arith) λ a p. omega arith
+  waits-there l d = go place
+    where
+      go : Place k → k .state ≢ plain
+      go (ready a p) = absurd (d p)
+      go (waits f a s p) = λ z. omega (arith, waiting a)
+      go (nowhere a n p) = absurd (omega arith)
 
-  pub semaphore-there : (s : ℕ) → s < semaphoreCount → placeOf k ≡ semaphoreQueue s → (k .state ≡ waitsSemaphore) × (k .object ≡ s)
-  semaphore-there s l e = object-there (omega arith) (λ z. omega arith) (λ a p. (a, omega arith)) λ a p. absurd (omega arith)
-
-  -- For a mutex, where no semaphore has a number past the semaphores.
-  pub mutex-there : (m : ℕ) → m < mutexCount → (k .state ≡ waitsSemaphore → k .object < semaphoreCount) → placeOf k ≡ mutexQueue m
-      → (k .state ≡ waitsMutex) × (k .object ≡ m)
-  mutex-there m l within e = object-there (omega arith) (λ z. omega arith) (λ a p. absurd (omega (arith, within a))) λ a p. (a, omega arith)
+  pub waiter-there : {f : Family} → Among f families → TaskInRange k → (o : ℕ) → o < f .count → placeOf k ≡ waitersOf f o → (k .state ≡ f .state) × (k .object ≡ o)
+  waiter-there {f} a r o l e = go place
+    where
+      go : Place k → (k .state ≡ f .state) × (k .object ≡ o)
+      go (ready b p) = absurd (omega (arith, first-queue a))
+      go (waits g b s p) =
+          let n : k .object < g .count = omega (arith, r .object, ap objectsIn s, numbers b) in
+          let (x, y) = one-queue b a (k .object) o n l (sym p ∙ e) in
+          (s ∙ x, y)
+      go (nowhere b n p) = absurd (omega (arith, last-queue a))
 
 -- A task that waits for no object is able or stands nowhere.
-pub no-waiter : (k : Task) → k .state ≢ waitsSemaphore → k .state ≢ waitsMutex → (placeOf k ≡ ableQueue) ⊎ (placeOf k ≡ queueCount)
-no-waiter k d e = go (place k)
+pub no-waiter : (k : Task) → k .state ≤ delayed → (placeOf k ≡ ableQueue) ⊎ (placeOf k ≡ queueCount)
+no-waiter k d = go (place k)
   where
     go : Place k → (placeOf k ≡ ableQueue) ⊎ (placeOf k ≡ queueCount)
     go (ready x p) = inl p
-    go (forSemaphore x p) = absurd (d x)
-    go (forMutex x p) = absurd (e x)
-    go (nowhere x y z p) = inr p
+    go (waits f a s p) = absurd (omega (arith, waiting a))
+    go (nowhere x y p) = inr p
 
 -- A task that is not plain is not able.
 pub not-able : (k : Task) → k .state ≢ plain → placeOf k ≢ ableQueue
 not-able k d e = d (able k .holds (able-there k e) .state)
 
--- The semaphore for which a task waits has a number in range.
-pub semaphore-range : {k : Task} → TaskInRange k → k .state ≡ waitsSemaphore → k .object < semaphoreCount
-unfolding objectsIn
-semaphore-range {k} r e = go (k .state) e (r .object)
-  where
-    go : (s : ℕ) → s ≡ waitsSemaphore → k .object < objectsIn s → k .object < semaphoreCount
-    go s e o = rw e at o
-
 -- Who stands in a queue is in use.
-pub placed-used : {k : Task} → TaskRight k → placeOf k < queueCount → k .used ≡ 1
-unfolding placeOf isAble
+pub placed-used : {k : Task} → SoundTask k → placeOf k < queueCount → k .used ≡ 1
+unfolding placeOf ofState isAble
 placed-used {k} r l = go (ℕ-discrete (k .used) 0)
   where
     go : Dec (k .used ≡ 0) → k .used ≡ 1
@@ -169,7 +154,7 @@ front-least {keys} u z (front {x} {xs} a o) h = go (ℕ-discrete x u)
     go (yes e) = rw e (z, omega arith)
     go (no d) = ⊎-elim (λ e. absurd (z e)) (λ p. p) (count-all u a (omega (arith, one-other u x d)))
 
-module _ {t : Table} (s : Queued t) (q : ℕ) (l : q < queueCount) where
+module _ {t : Table} (s : SoundQueues t) (q : ℕ) (l : q < queueCount) where
   front-stands : 1 ≤ count (firstIn q t) (queueOf t q)
   front-stands = stands-some (firstIn q t) (queueOf t q) (stands-at (firstIn q t) 0 (queueOf t q) (omega (arith, s .shaped .slots q l)) refl)
 
@@ -210,36 +195,18 @@ module _ {t : Table} (s : Queued t) (q : ℕ) (l : q < queueCount) where
       go (yes e) = e
       go (no n) = absurd (out (firstIn q t - 1) (omega (arith, first-range)) (first-there n))
 
--- ---- families: where the waiters of their objects stand
+-- ---- the queue of an object
 
-pub record Placed (f : Family) : Type 1 where
-  -- its queues are objects' queues
-  pub queues : ableQueue < f .first
-  pub range : f .first + f .count ≤ queueCount
-  -- who waits for one stands in its queue, and who stands there waits for it
-  pub place : (k : Task) → k .state ≡ f .state → placeOf k ≡ waitersOf f (k .object)
-  pub there : (k : Task) (o : ℕ) → TaskInRange k → o < f .count → placeOf k ≡ waitersOf f o → (k .state ≡ f .state) × (k .object ≡ o)
-  -- it is one of the families
-  pub among : {P : Family → Type 0} → OfEach P → P f
-
-pub semaphores-placed : Placed semaphores
-semaphores-placed =
-    record { queues = omega arith; range = omega arith; place = semaphore-place; there = λ k o r. semaphore-there k o; among = λ r. r .semaphore }
-
-pub mutexes-placed : Placed mutexes
-mutexes-placed =
-    record { queues = omega arith; range = omega arith; place = mutex-place; there = λ k m r l. mutex-there k m l (semaphore-range r); among = λ r. r .mutex }
-
-module _ {f : Family} (k : Placed f) {t : Table} (q : Queued t) (o : ℕ) (l : o < f .count) where
+module _ {f : Family} (a : Among f families) {t : Table} (q : SoundQueues t) (o : ℕ) (l : o < f .count) where
   -- Where an object's queue is empty, nobody waits for it.
   pub unwaited : Empty (waitersOf f o) t → (j : ℕ) → j < taskCount → taskOf t j .state ≡ f .state → taskOf t j .object ≢ o
-  unwaited z j m e x = empty-none q (waitersOf f o) (omega (arith, k .range)) z j m (k .place (taskOf t j) e ∙ ap (waitersOf f) x)
+  unwaited z j m e x = empty-none q (waitersOf f o) (omega (arith, last-queue a)) z j m (waiter-place (taskOf t j) a e ∙ ap (waitersOf f) x)
 
   -- "a free number has .. no queue"; what has something to take has no waiter.
-  pub no-queue : TasksRight t → ObjectsRight t → (f .used t o ≢ 1) ⊎ (f .offers t o ≡ true) → Empty (waitersOf f o) t
+  pub no-queue : SoundTasks t → SoundObjects t → (f .used t o ≢ 1) ⊎ (f .offers t o ≡ true) → Empty (waitersOf f o) t
   no-queue tasks objects why =
-      none-empty q (waitersOf f o) (omega (arith, k .range))
+      none-empty q (waitersOf f o) (omega (arith, last-queue a))
       (λ j m p.
-      let (e, x) = k .there (taskOf t j) o (tasks j m .inRange) l p in
-      let w : MayWait f t j o = subst (MayWait f t j) x (k .among (objects .waits j m) e) in
+      let (e, x) = waiter-there (taskOf t j) a (tasks j m .inRange) o l p in
+      let w : MayWait f t j o = subst (MayWait f t j) x (objects .waits j m f a e) in
       ⊎-elim (λ n. n (w .used)) (w .nothing) why)

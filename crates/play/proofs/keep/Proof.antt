@@ -11,33 +11,6 @@ Inv-loop input₀ from to n₀ input n = (n ≤ to - from) × (length input ≡ 
 abbrev μ-loop : tie.MeasureT-loop
 μ-loop input₀ from to n₀ input n = to - from - n
 
-loop-holds : tie.Need-loop-holds Inv-loop μ-loop
-loop-holds c = search needs
-
-sub-loop : tie.Need-sub-loop Inv-loop μ-loop
-sub-loop c = search needs
-
-add-input : tie.Need-add-input Inv-loop μ-loop
-add-input c = search needs
-
-slice-read-input : tie.Need-slice-read-input Inv-loop μ-loop
-slice-read-input c = search needs
-
-slice-write-input : tie.Need-slice-write-input Inv-loop μ-loop
-slice-write-input c = search needs
-
-add-n : tie.Need-add-n Inv-loop μ-loop
-add-n c = search needs
-
-loop-less : tie.Need-loop-less Inv-loop μ-loop
-loop-less c = search needs
-
-loop-again : tie.Need-loop-again Inv-loop μ-loop
-loop-again c = search needs
-
-same-length : tie.Need-same-length Inv-loop μ-loop
-same-length c = search needs
-
 returns : tie.Need-returns Inv-loop μ-loop
 returns c = search needs
 
@@ -47,13 +20,13 @@ keep-spec =
     (tie.spec
     Inv-loop
     μ-loop
-    loop-holds
-    sub-loop
-    add-input
-    slice-read-input
-    slice-write-input
-    add-n
-    loop-less
-    loop-again
-    same-length
+    (λ c. search needs)
+    (λ c. search needs)
+    (λ c. search needs)
+    (λ c. search needs)
+    (λ c. search needs)
+    (λ c. search needs)
+    (λ c. search needs)
+    (λ c. search needs)
+    (λ c. search needs)
     returns)

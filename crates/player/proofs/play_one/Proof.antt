@@ -5,41 +5,8 @@ use borrow.Author.Needs.{needs}
 use Rattle.player.proofs.play_one.Statement.{statement}
 use Rattle.player.proofs.play_one.Tie as tie
 
-sub-if1 : tie.Need-sub-if1
-sub-if1 c = search needs
-
 returns : tie.Need-returns
 returns c = full-turn _ _ _ _ (c .if1 .taken)
-
-read-call-requires : tie.Need-read-call-requires
-read-call-requires c κs = search needs
-
-enum-known-next : tie.Need-enum-known-next
-enum-known-next c = search needs
-
-serve-requires : tie.Need-serve-requires
-serve-requires c κs = search needs
-
-get-running-requires : tie.Need-get-running-requires
-get-running-requires c κs = search needs
-
-write-line-requires : tie.Need-write-line-requires
-write-line-requires c κs = search needs
-
-enum-told : tie.Need-enum-told
-enum-told c = search needs
-
-enum-told-2 : tie.Need-enum-told-2
-enum-told-2 c = search needs
-
-enum-told-3 : tie.Need-enum-told-3
-enum-told-3 c = search needs
-
-same-length : tie.Need-same-length
-same-length c = search needs
-
-same-length-2 : tie.Need-same-length-2
-same-length-2 c = search needs
 
 returns-2 : tie.Need-returns-2
 returns-2 c = let e = c .before .before .before .before .before .before .before .before .before .before .before in
@@ -64,18 +31,18 @@ pub play-one-spec : {M : Type 1} → statement M
 play-one-spec =
     tie.close
     (tie.spec
-    sub-if1
+    (λ c. search needs)
     returns
-    read-call-requires
-    enum-known-next
-    serve-requires
-    get-running-requires
-    write-line-requires
-    enum-told
-    enum-told-2
-    enum-told-3
-    same-length
-    same-length-2
+    (λ c κs. search needs)
+    (λ c. search needs)
+    (λ c κs. search needs)
+    (λ c κs. search needs)
+    (λ c κs. search needs)
+    (λ c. search needs)
+    (λ c. search needs)
+    (λ c. search needs)
+    (λ c. search needs)
+    (λ c. search needs)
     returns-2
     returns-3
     returns-4

@@ -4,23 +4,6 @@ use Rattle.port.proofs.Laws.{gives-served}
 use borrow.Author.Needs.{needs}
 use Rattle.port.proofs.serve_call.Statement.{statement}
 use Rattle.port.proofs.serve_call.Tie as tie
-use Rattle.port.proofs.serve_call.Reads as reads
-use Rattle.port.proofs.serve_call.Lts as lts
-use Rattle.calls.proofs.serve.Reads as serve-reads
-use Rattle.port.proofs.outcome.Reads as outcome-reads
-use Rattle.table.proofs.cells.get_running.Reads as get-running-reads
-
-serve-requires : tie.Need-serve-requires
-serve-requires c κs = search needs
-
-get-running-requires : tie.Need-get-running-requires
-get-running-requires c κs = search needs
-
-outcome-requires : tie.Need-outcome-requires
-outcome-requires c κs = search needs
-
-same-length : tie.Need-same-length
-same-length c = search needs
 
 returns : tie.Need-returns
 returns c =
@@ -31,4 +14,4 @@ returns c =
 
 pub serve-call-spec : {M : Type 1} → statement M
 serve-call-spec =
-    tie.close (tie.spec serve-requires get-running-requires outcome-requires same-length returns)
+    tie.close (tie.spec (λ c κs. search needs) (λ c κs. search needs) (λ c κs. search needs) (λ c. search needs) returns)

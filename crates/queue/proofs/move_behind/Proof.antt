@@ -1,5 +1,4 @@
 use mathlib.Core.Path.{ap}
-use mathlib.Core.List.{List}
 use Prim.Native.Nat.{ℕ}
 use Rattle.queue.specs.Slots.{closed, behind}
 use mathlib.Core.Path.{_∙_, sym}
@@ -8,43 +7,19 @@ use Rattle.queue.proofs.Outcome.{known-small, move-unknown, move-absent
 use borrow.Author.Needs.{needs}
 use Rattle.queue.proofs.move_behind.Statement.{statement}
 use Rattle.queue.proofs.move_behind.Tie as tie
-use Rattle.queue.proofs.move_behind.Reads as reads
-use Rattle.queue.proofs.move_behind.Lts as lts
-use Rattle.queue.proofs.close.Reads as close-reads
-use Rattle.queue.proofs.is_known.Reads as is-known-reads
-use Rattle.queue.proofs.put_behind.Reads as put-behind-reads
-use Rattle.queue.proofs.slot_of.Reads as slot-of-reads
-
-is-known-requires : tie.Need-is-known-requires
-is-known-requires c κs = search needs
 
 returns : tie.Need-returns
 returns c = move-unknown _ _ _ (sym (c .before .is-known .ensures) ∙ not-true _ (c .if1 .taken))
-
-add-slot-of : tie.Need-add-slot-of
-add-slot-of c = search needs
-
-slot-of-requires : tie.Need-slot-of-requires
-slot-of-requires c κs = search needs
-
-same-length : tie.Need-same-length
-same-length c = search needs
 
 returns-2 : tie.Need-returns-2
 returns-2 c =
     let e = c .before .before .before in
     move-absent _ _ _ _ (c .before .slot-of .ensures) (sym (e .before .is-known .ensures) ∙ not-false _ (e .if1 .left)) (c .if2 .taken)
 
-close-requires : tie.Need-close-requires
-close-requires c κs = search needs
-
 put-behind-requires : tie.Need-put-behind-requires
 put-behind-requires c κs =
     let e = c .before .before .before .before .before .before .before .before in
     known-small (e .before .before .before .before .args .keys .now) _ (sym (e .before .is-known .ensures) ∙ not-false _ (e .if1 .left))
-
-same-length-2 : tie.Need-same-length-2
-same-length-2 c = search needs
 
 returns-3 : tie.Need-returns-3
 returns-3 c =
@@ -59,13 +34,13 @@ pub move-behind-spec : {M : Type 1} → statement M
 move-behind-spec =
     tie.close
     (tie.spec
-    is-known-requires
+    (λ c κs. search needs)
     returns
-    add-slot-of
-    slot-of-requires
-    same-length
+    (λ c. search needs)
+    (λ c κs. search needs)
+    (λ c. search needs)
     returns-2
-    close-requires
+    (λ c κs. search needs)
     put-behind-requires
-    same-length-2
+    (λ c. search needs)
     returns-3)

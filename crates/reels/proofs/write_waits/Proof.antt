@@ -11,30 +11,6 @@ Inv-loop tape₀ n₀ tape n = (n ≤ 251) × (length tape ≡ 1764)
 abbrev μ-loop : tie.MeasureT-loop
 μ-loop tape₀ n₀ tape n = 251 - n
 
-loop-holds : tie.Need-loop-holds Inv-loop μ-loop
-loop-holds c = search needs
-
-mul-tape : tie.Need-mul-tape Inv-loop μ-loop
-mul-tape c = search needs
-
-add-tape : tie.Need-add-tape Inv-loop μ-loop
-add-tape c = search needs
-
-slice-write-tape : tie.Need-slice-write-tape Inv-loop μ-loop
-slice-write-tape c = search needs
-
-add-n : tie.Need-add-n Inv-loop μ-loop
-add-n c = search needs
-
-loop-less : tie.Need-loop-less Inv-loop μ-loop
-loop-less c = search needs
-
-loop-again : tie.Need-loop-again Inv-loop μ-loop
-loop-again c = search needs
-
-same-length : tie.Need-same-length Inv-loop μ-loop
-same-length c = search needs
-
 returns : tie.Need-returns Inv-loop μ-loop
 returns c = search needs
 
@@ -44,12 +20,12 @@ write-waits-spec =
     (tie.spec
     Inv-loop
     μ-loop
-    loop-holds
-    mul-tape
-    add-tape
-    slice-write-tape
-    add-n
-    loop-less
-    loop-again
-    same-length
+    (λ c. search needs)
+    (λ c. search needs)
+    (λ c. search needs)
+    (λ c. search needs)
+    (λ c. search needs)
+    (λ c. search needs)
+    (λ c. search needs)
+    (λ c. search needs)
     returns)

@@ -7,19 +7,6 @@ use Rattle.sound.specs.Whole.{isRunRight}
 use borrow.Author.Needs.{needs}
 use Rattle.sound.proofs.is_run_right.Statement.{statement}
 use Rattle.sound.proofs.is_run_right.Tie as tie
-use Rattle.sound.proofs.is_run_right.Reads as reads
-use Rattle.sound.proofs.is_run_right.Lts as lts
-use Rattle.table.proofs.cells.get_depth.Reads as get-depth-reads
-use Rattle.table.proofs.cells.get_running.Reads as get-running-reads
-use Rattle.table.proofs.cells.task_at.Reads as task-at-reads
-use Rattle.table.proofs.moves.first_in.Reads as first-in-reads
-use Rattle.table.proofs.moves.is_able.Reads as is-able-reads
-
-get-depth-requires : tie.Need-get-depth-requires
-get-depth-requires c κs = search needs
-
-get-running-requires : tie.Need-get-running-requires
-get-running-requires c κs = search needs
 
 returns : tie.Need-returns
 unfolding isRunRight
@@ -35,9 +22,6 @@ returns-2 c =
     let d : t .depth ≤ 250 = omega (arith, c .before .before .before .get-depth .ensures) in
     let r : 32 < t .running = omega (arith, c .before .before .get-running .ensures) in
     rw (le-leb (t .depth) 250 d, lt-leb (t .running) 32 r)
-
-first-in-requires : tie.Need-first-in-requires
-first-in-requires c κs = search needs
 
 returns-3 : tie.Need-returns-3
 unfolding isRunRight
@@ -57,18 +41,6 @@ returns-4 c =
     let z : t .running ≡ 0 = sym (c .before .before .before .before .get-running .ensures) ∙ c .if4 .taken in
     rw (le-leb (t .depth) 250 d, le-leb (t .running) 32 r, ne-eqb (t .depth) 0 (λ e. c .before .if3 .left (c .before .before .before .before .before .get-depth .ensures ∙ e)), eq-eqb (t .running) 0 z)
 
-cast-task-at : tie.Need-cast-task-at
-cast-task-at c = search needs
-
-sub-task-at : tie.Need-sub-task-at
-sub-task-at c = search needs
-
-task-at-requires : tie.Need-task-at-requires
-task-at-requires c κs = search needs
-
-is-able-requires : tie.Need-is-able-requires
-is-able-requires c κs = search needs
-
 returns-5 : tie.Need-returns-5
 unfolding isRunRight
 returns-5 c =
@@ -81,15 +53,15 @@ pub is-run-right-spec : {M : Type 1} → statement M
 is-run-right-spec =
     tie.close
     (tie.spec
-    get-depth-requires
-    get-running-requires
+    (λ c κs. search needs)
+    (λ c κs. search needs)
     returns
     returns-2
-    first-in-requires
+    (λ c κs. search needs)
     returns-3
     returns-4
-    cast-task-at
-    sub-task-at
-    task-at-requires
-    is-able-requires
+    (λ c. search needs)
+    (λ c. search needs)
+    (λ c κs. search needs)
+    (λ c κs. search needs)
     returns-5)

@@ -9,20 +9,6 @@ use Rattle.sound.specs.Whole.{Parts, run-right, works-right, sound-parts
 use borrow.Author.Needs.{needs}
 use Rattle.sound.proofs.is_sound.Statement.{statement}
 use Rattle.sound.proofs.is_sound.Tie as tie
-use Rattle.sound.proofs.is_sound.Reads as reads
-use Rattle.sound.proofs.is_sound.Lts as lts
-use Rattle.sound.proofs.is_run_right.Reads as is-run-right-reads
-use Rattle.sound.proofs.objects.are_mutexes_right.Reads as are-mutexes-right-reads
-use Rattle.sound.proofs.objects.are_semaphores_right.Reads as are-semaphores-right-reads
-use Rattle.sound.proofs.queues.are_queues_right.Reads as are-queues-right-reads
-use Rattle.sound.proofs.tasks.are_tasks_right.Reads as are-tasks-right-reads
-use Rattle.sound.proofs.works.are_works_right.Reads as are-works-right-reads
-
-slice-aggregate-are-tasks-right : tie.Need-slice-aggregate-are-tasks-right
-slice-aggregate-are-tasks-right c = search needs
-
-are-tasks-right-requires : tie.Need-are-tasks-right-requires
-are-tasks-right-requires c κs = search needs
 
 returns : tie.Need-returns
 returns c =
@@ -32,9 +18,6 @@ returns c =
     let tasks = c .before .before .are-tasks-right in
     refused (sound-parts t shaped (tasks .ensures .tick)) (λ p. p .tasks) (answers (tasks .ensures .test) (tasks-right t)) (not-true (tasks .result) (c .if1 .taken))
 
-are-semaphores-right-requires : tie.Need-are-semaphores-right-requires
-are-semaphores-right-requires c κs = search needs
-
 returns-2 : tie.Need-returns-2
 returns-2 c =
     let l = c .before .before .before .before .before .before .before .args .s .now in
@@ -43,9 +26,6 @@ returns-2 c =
     let tasks = c .before .before .before .before .are-tasks-right in
     refused (sound-parts t shaped (tasks .ensures .tick)) (λ p. p .semaphores) (answers (c .before .are-semaphores-right .ensures) (semaphores-right t)) (not-true (c .before .are-semaphores-right .result) (c .if2 .taken))
 
-are-mutexes-right-requires : tie.Need-are-mutexes-right-requires
-are-mutexes-right-requires c κs = search needs
-
 returns-3 : tie.Need-returns-3
 returns-3 c =
     let l = c .before .before .before .before .before .before .before .before .before .args .s .now in
@@ -53,9 +33,6 @@ returns-3 c =
     let shaped = view-shaped l (c .before .before .before .before .before .before .before .before .before .pre) in
     let tasks = c .before .before .before .before .before .before .are-tasks-right in
     refused (sound-parts t shaped (tasks .ensures .tick)) (λ p. p .mutexes) (answers (c .before .are-mutexes-right .ensures) (mutexes-right t)) (not-true (c .before .are-mutexes-right .result) (c .if3 .taken))
-
-slice-aggregate-are-queues-right : tie.Need-slice-aggregate-are-queues-right
-slice-aggregate-are-queues-right c = search needs
 
 are-queues-right-requires : tie.Need-are-queues-right-requires
 are-queues-right-requires c κs = (c .before .before .before .before .before .before .before .before .before .before .pre, search needs, c .before .before .before .before .before .before .before .are-tasks-right .ensures .spotted (not-false (c .before .before .before .before .before .before .before .are-tasks-right .result) (c .before .before .before .before .before .if1 .left)))
@@ -68,9 +45,6 @@ returns-4 c =
     let tasks = c .before .before .before .before .before .before .before .before .before .before .are-tasks-right in
     refused (sound-parts t shaped (tasks .ensures .tick)) (λ p. p .queued) (c .before .before .are-queues-right .ensures) (not-true (c .before .before .are-queues-right .result) (c .if4 .taken))
 
-are-works-right-requires : tie.Need-are-works-right-requires
-are-works-right-requires c κs = search needs
-
 returns-5 : tie.Need-returns-5
 returns-5 c =
     let l = c .before .before .before .before .before .before .before .before .before .before .before .before .before .before .before .args .s .now in
@@ -78,9 +52,6 @@ returns-5 c =
     let shaped = view-shaped l (c .before .before .before .before .before .before .before .before .before .before .before .before .before .before .before .pre) in
     let tasks = c .before .before .before .before .before .before .before .before .before .before .before .before .are-tasks-right in
     refused (sound-parts t shaped (tasks .ensures .tick)) (λ p. p .worked) (answers (c .before .are-works-right .ensures) (works-right t shaped)) (not-true (c .before .are-works-right .result) (c .if5 .taken))
-
-is-run-right-requires : tie.Need-is-run-right-requires
-is-run-right-requires c κs = search needs
 
 returns-6 : tie.Need-returns-6
 returns-6 c =
@@ -103,17 +74,17 @@ pub is-sound-spec : {M : Type 1} → statement M
 is-sound-spec =
     tie.close
     (tie.spec
-    slice-aggregate-are-tasks-right
-    are-tasks-right-requires
+    (λ c. search needs)
+    (λ c κs. search needs)
     returns
-    are-semaphores-right-requires
+    (λ c κs. search needs)
     returns-2
-    are-mutexes-right-requires
+    (λ c κs. search needs)
     returns-3
-    slice-aggregate-are-queues-right
+    (λ c. search needs)
     are-queues-right-requires
     returns-4
-    are-works-right-requires
+    (λ c κs. search needs)
     returns-5
-    is-run-right-requires
+    (λ c κs. search needs)
     returns-6)

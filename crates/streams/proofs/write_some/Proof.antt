@@ -8,26 +8,8 @@ Inv-loop fd buf turns₀ turns = Unit {0}
 abbrev μ-loop : tie.MeasureT-loop
 μ-loop fd buf turns₀ turns = turns
 
-loop-holds : tie.Need-loop-holds Inv-loop μ-loop
-loop-holds c = search needs
-
-write-requires : tie.Need-write-requires Inv-loop μ-loop
-write-requires c κs = search needs
-
-goes-on-requires : tie.Need-goes-on-requires Inv-loop μ-loop
-goes-on-requires c κs = search needs
-
 returns : tie.Need-returns Inv-loop μ-loop
 returns c = search needs
-
-sub-turns : tie.Need-sub-turns Inv-loop μ-loop
-sub-turns c = search needs
-
-loop-less : tie.Need-loop-less Inv-loop μ-loop
-loop-less c = search needs
-
-loop-again : tie.Need-loop-again Inv-loop μ-loop
-loop-again c = search needs
 
 returns-2 : tie.Need-returns-2 Inv-loop μ-loop
 returns-2 c = search needs
@@ -38,11 +20,11 @@ write-some-spec =
     (tie.spec
     Inv-loop
     μ-loop
-    loop-holds
-    write-requires
-    goes-on-requires
+    (λ c. search needs)
+    (λ c κs. search needs)
+    (λ c κs. search needs)
     returns
-    sub-turns
-    loop-less
-    loop-again
+    (λ c. search needs)
+    (λ c. search needs)
+    (λ c. search needs)
     returns-2)

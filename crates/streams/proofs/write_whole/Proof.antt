@@ -10,35 +10,8 @@ Inv-loop fd buf done₀ done = done ≤ length buf
 abbrev μ-loop : tie.MeasureT-loop
 μ-loop fd buf done₀ done = length buf - done
 
-loop-holds : tie.Need-loop-holds Inv-loop μ-loop
-loop-holds c = search needs
-
-sub-rest : tie.Need-sub-rest Inv-loop μ-loop
-sub-rest c = search needs
-
-part-rest-start : tie.Need-part-rest-start Inv-loop μ-loop
-part-rest-start c = search needs
-
-part-rest-end : tie.Need-part-rest-end Inv-loop μ-loop
-part-rest-end c = search needs
-
-write-some-requires : tie.Need-write-some-requires Inv-loop μ-loop
-write-some-requires c κs = search needs
-
-count-requires : tie.Need-count-requires Inv-loop μ-loop
-count-requires c κs = search needs
-
 returns : tie.Need-returns Inv-loop μ-loop
 returns c = search needs
-
-add-done : tie.Need-add-done Inv-loop μ-loop
-add-done c = search needs
-
-loop-less : tie.Need-loop-less Inv-loop μ-loop
-loop-less c = search needs
-
-loop-again : tie.Need-loop-again Inv-loop μ-loop
-loop-again c = search needs
 
 returns-2 : tie.Need-returns-2 Inv-loop μ-loop
 returns-2 c = search needs
@@ -49,14 +22,14 @@ write-whole-spec =
     (tie.spec
     Inv-loop
     μ-loop
-    loop-holds
-    sub-rest
-    part-rest-start
-    part-rest-end
-    write-some-requires
-    count-requires
+    (λ c. search needs)
+    (λ c. search needs)
+    (λ c. search needs)
+    (λ c. search needs)
+    (λ c κs. search needs)
+    (λ c κs. search needs)
     returns
-    add-done
-    loop-less
-    loop-again
+    (λ c. search needs)
+    (λ c. search needs)
+    (λ c. search needs)
     returns-2)

@@ -3,12 +3,6 @@ use borrow.Author.Needs.{needs}
 use Rattle.tape.proofs.cut_call.Statement.{statement}
 use Rattle.tape.proofs.cut_call.Tie as tie
 
-enum-told : tie.Need-enum-told
-enum-told c = search needs
-
-enum-told-2 : tie.Need-enum-told-2
-enum-told-2 c = search needs
-
 returns : tie.Need-returns
 unfolding nextOf
 returns c = rw (c .enum-told .given .1)
@@ -18,4 +12,4 @@ unfolding nextOf
 returns-2 c = rw (c .enum-told2 .given .1)
 
 pub cut-call-spec : {M : Type 1} → statement M
-cut-call-spec = tie.close (tie.spec enum-told enum-told-2 returns returns-2)
+cut-call-spec = tie.close (tie.spec (λ c. search needs) (λ c. search needs) returns returns-2)

@@ -14,17 +14,8 @@ abbrev μ-loop : tie.MeasureT-loop
 loop-holds : tie.Need-loop-holds Inv-loop μ-loop
 loop-holds c = read-none (c .args .tape .now) (c .args .at) (c .args .w)
 
-sub-left : tie.Need-sub-left Inv-loop μ-loop
-sub-left c = search needs
-
 mul-n : tie.Need-mul-n Inv-loop μ-loop
 mul-n c = omega (arith, read-small (c .before .loop .inv) (c .loop-test .taken) (c .before .before .pre .0))
-
-add-n : tie.Need-add-n Inv-loop μ-loop
-add-n c = search needs
-
-shared-slice-read-n : tie.Need-shared-slice-read-n Inv-loop μ-loop
-shared-slice-read-n c = search needs
 
 cast-n : tie.Need-cast-n Inv-loop μ-loop
 cast-n c =
@@ -35,9 +26,6 @@ add-n-2 : tie.Need-add-n-2 Inv-loop μ-loop
 add-n-2 c =
     let b = c .before .before in
     omega (arith, read-small (b .loop .inv) (c .before .loop-test .taken) (b .before .pre .0), c .shared-slice-known .given (b .before .args .at + (b .loop .left - 1)))
-
-loop-less : tie.Need-loop-less Inv-loop μ-loop
-loop-less c = search needs
 
 loop-again : tie.Need-loop-again Inv-loop μ-loop
 loop-again c =
@@ -54,12 +42,12 @@ little-at-spec =
     Inv-loop
     μ-loop
     loop-holds
-    sub-left
+    (λ c. search needs)
     mul-n
-    add-n
-    shared-slice-read-n
+    (λ c. search needs)
+    (λ c. search needs)
     cast-n
     add-n-2
-    loop-less
+    (λ c. search needs)
     loop-again
     returns)

@@ -3,12 +3,6 @@ use borrow.Author.Needs.{needs}
 use Rattle.tape.proofs.whole_call.Statement.{statement}
 use Rattle.tape.proofs.whole_call.Tie as tie
 
-enum-known-reading : tie.Need-enum-known-reading
-enum-known-reading c = search needs
-
-enum-told : tie.Need-enum-told
-enum-told c = search needs
-
 returns : tie.Need-returns
 unfolding nextOf
 returns c = rw (c .before .reading .given .1)
@@ -18,4 +12,4 @@ unfolding nextOf
 returns-2 c = rw (c .enum-told .given .1)
 
 pub whole-call-spec : {M : Type 1} → statement M
-whole-call-spec = tie.close (tie.spec enum-known-reading enum-told returns returns-2)
+whole-call-spec = tie.close (tie.spec (λ c. search needs) (λ c. search needs) returns returns-2)

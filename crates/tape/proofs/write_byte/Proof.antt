@@ -4,17 +4,8 @@ use Rattle.tape.specs.Line.{wrote-bytes}
 use Rattle.tape.proofs.write_byte.Statement.{statement}
 use Rattle.tape.proofs.write_byte.Tie as tie
 
-slice-write-out : tie.Need-slice-write-out
-slice-write-out c = search needs
-
-add-result : tie.Need-add-result
-add-result c = search needs
-
-same-length : tie.Need-same-length
-same-length c = search needs
-
 returns : tie.Need-returns
 returns c = wrote-bytes _ _ _ (omega arith)
 
 pub write-byte-spec : {M : Type 1} → statement M
-write-byte-spec = tie.close (tie.spec slice-write-out add-result same-length returns)
+write-byte-spec = tie.close (tie.spec (λ c. search needs) (λ c. search needs) (λ c. search needs) returns)

@@ -4,9 +4,6 @@ use Rattle.tape.specs.Line.{lineOf, wrote-after, decimal-short, runner-s
 use Rattle.tape.proofs.write_fitting.Statement.{statement}
 use Rattle.tape.proofs.write_fitting.Tie as tie
 
-write-decimal-requires : tie.Need-write-decimal-requires
-write-decimal-requires c κs = search needs
-
 write-byte-requires : tie.Need-write-byte-requires
 write-byte-requires c κs = omega (arith, decimal-short (c .before .before .before .before .before .before .args .answer))
 
@@ -17,9 +14,6 @@ write-byte-requires-2 : tie.Need-write-byte-requires-2
 write-byte-requires-2 c κs =
     let args = c .before .before .before .before .before .before .before .before .before .before .before .before .before .before .args in
     omega (arith, decimal-short (args .answer), runner-short (args .runs))
-
-same-length : tie.Need-same-length
-same-length c = search needs
 
 returns : tie.Need-returns
 unfolding lineOf
@@ -37,9 +31,9 @@ pub write-fitting-spec : {M : Type 1} → statement M
 write-fitting-spec =
     tie.close
     (tie.spec
-    write-decimal-requires
+    (λ c κs. search needs)
     write-byte-requires
     write-runner-requires
     write-byte-requires-2
-    same-length
+    (λ c. search needs)
     returns)

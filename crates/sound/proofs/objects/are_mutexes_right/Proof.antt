@@ -10,9 +10,6 @@ use Rattle.sound.specs.Objects.{mutexRight}
 use Rattle.sound.specs.Tests.{each-none, each-more, each-stop}
 use Rattle.sound.proofs.objects.are_mutexes_right.Statement.{statement}
 use Rattle.sound.proofs.objects.are_mutexes_right.Tie as tie
-use Rattle.sound.proofs.objects.are_mutexes_right.Reads as reads
-use Rattle.sound.proofs.objects.are_mutexes_right.Lts as lts
-use Rattle.sound.proofs.objects.is_mutex_right.Reads as is-mutex-right-reads
 
 abbrev Inv-loop : tie.InvT-loop
 Inv-loop s m₀ m = (m ≤ 16) × (each m (mutexRight (view s)) ≡ true)
@@ -23,20 +20,11 @@ abbrev μ-loop : tie.MeasureT-loop
 loop-holds : tie.Need-loop-holds Inv-loop μ-loop
 loop-holds c = (omega arith, each-none _)
 
-is-mutex-right-requires : tie.Need-is-mutex-right-requires Inv-loop μ-loop
-is-mutex-right-requires c κs = search needs
-
 returns : tie.Need-returns Inv-loop μ-loop
 returns c =
     let t = view (c .before .before .before .before .before .args .s .now) in
     let h : mutexRight t (c .before .before .before .loop .m) ≡ false = cc (not-true (c .before .is-mutex-right .result) (c .if1 .taken)) in
     each-stop (mutexRight t) 16 (c .before .before .before .loop .m) (omega arith) h
-
-add-m : tie.Need-add-m Inv-loop μ-loop
-add-m c = search needs
-
-loop-less : tie.Need-loop-less Inv-loop μ-loop
-loop-less c = omega arith
 
 loop-again : tie.Need-loop-again Inv-loop μ-loop
 loop-again c =
@@ -56,9 +44,9 @@ are-mutexes-right-spec =
     Inv-loop
     μ-loop
     loop-holds
-    is-mutex-right-requires
+    (λ c κs. search needs)
     returns
-    add-m
-    loop-less
+    (λ c. search needs)
+    (λ c. omega arith)
     loop-again
     returns-2)

@@ -10,10 +10,6 @@ use Rattle.sound.specs.Objects.{semaphoreRight}
 use Rattle.sound.specs.Tests.{each-none, each-more, each-stop}
 use Rattle.sound.proofs.objects.are_semaphores_right.Statement.{statement}
 use Rattle.sound.proofs.objects.are_semaphores_right.Tie as tie
-use Rattle.sound.proofs.objects.are_semaphores_right.Reads as reads
-use Rattle.sound.proofs.objects.are_semaphores_right.Lts as lts
-use Rattle.sound.proofs.objects.is_semaphore_right.Reads as is-semaphore-right-reads
-use Rattle.table.proofs.cells.get_semaphore.Reads as get-semaphore-reads
 
 abbrev Inv-loop : tie.InvT-loop
 Inv-loop s i₀ i = (i ≤ 16) × (each i (semaphoreRight (view s)) ≡ true)
@@ -24,23 +20,11 @@ abbrev μ-loop : tie.MeasureT-loop
 loop-holds : tie.Need-loop-holds Inv-loop μ-loop
 loop-holds c = (omega arith, each-none _)
 
-get-semaphore-requires : tie.Need-get-semaphore-requires Inv-loop μ-loop
-get-semaphore-requires c κs = search needs
-
-is-semaphore-right-requires : tie.Need-is-semaphore-right-requires Inv-loop μ-loop
-is-semaphore-right-requires c κs = search needs
-
 returns : tie.Need-returns Inv-loop μ-loop
 returns c =
     let t = view (c .before .before .before .before .before .before .args .s .now) in
     let h : semaphoreRight t (c .before .before .before .before .loop .i) ≡ false = cc (not-true (c .before .is-semaphore-right .result) (c .if1 .taken)) in
     each-stop (semaphoreRight t) 16 (c .before .before .before .before .loop .i) (omega arith) h
-
-add-i : tie.Need-add-i Inv-loop μ-loop
-add-i c = search needs
-
-loop-less : tie.Need-loop-less Inv-loop μ-loop
-loop-less c = omega arith
 
 loop-again : tie.Need-loop-again Inv-loop μ-loop
 loop-again c =
@@ -60,10 +44,10 @@ are-semaphores-right-spec =
     Inv-loop
     μ-loop
     loop-holds
-    get-semaphore-requires
-    is-semaphore-right-requires
+    (λ c κs. search needs)
+    (λ c κs. search needs)
     returns
-    add-i
-    loop-less
+    (λ c. search needs)
+    (λ c. omega arith)
     loop-again
     returns-2)

@@ -3,8 +3,6 @@ use native.Mathlib.Omega.{arith}
 use Rattle.sound.specs.Objects.{free-right, used-right}
 use Rattle.sound.proofs.objects.is_semaphore_right.Statement.{statement}
 use Rattle.sound.proofs.objects.is_semaphore_right.Tie as tie
-use Rattle.sound.proofs.objects.is_semaphore_right.Reads as reads
-use Rattle.sound.proofs.objects.is_semaphore_right.Lts as lts
 
 returns : tie.Need-returns
 returns c =

@@ -2,8 +2,6 @@ use mathlib.Core.Path.{refl}
 use Rattle.sound.specs.Objects.{isUnheldRight}
 use Rattle.sound.proofs.objects.is_unheld_right.Statement.{statement}
 use Rattle.sound.proofs.objects.is_unheld_right.Tie as tie
-use Rattle.sound.proofs.objects.is_unheld_right.Reads as reads
-use Rattle.sound.proofs.objects.is_unheld_right.Lts as lts
 
 returns : tie.Need-returns
 unfolding isUnheldRight

@@ -8,8 +8,6 @@ use Rattle.rules.specs.Sound.{each}
 use Rattle.sound.specs.Tests.{each-none, each-and}
 use Rattle.sound.proofs.queues.are_all_met.Statement.{statement}
 use Rattle.sound.proofs.queues.are_all_met.Tie as tie
-use Rattle.sound.proofs.queues.are_all_met.Reads as reads
-use Rattle.sound.proofs.queues.are_all_met.Lts as lts
 
 abbrev Inv-loop : tie.InvT-loop
 Inv-loop spots all₀ i₀ all i = (i ≤ 32) × (all ≡ each i (λ k. leb 33 (getD spots k 0)))
@@ -19,15 +17,6 @@ abbrev μ-loop : tie.MeasureT-loop
 
 loop-holds : tie.Need-loop-holds Inv-loop μ-loop
 loop-holds c = (omega arith, sym (each-none _))
-
-shared-slice-read-all : tie.Need-shared-slice-read-all Inv-loop μ-loop
-shared-slice-read-all c = search needs
-
-add-i : tie.Need-add-i Inv-loop μ-loop
-add-i c = search needs
-
-loop-less : tie.Need-loop-less Inv-loop μ-loop
-loop-less c = search needs
 
 loop-again : tie.Need-loop-again Inv-loop μ-loop
 loop-again c = (omega arith, each-and (λ k. leb 33 (getD (c .before .before .before .args .spots .now) k 0)) (c .before .before .loop .i) (c .before .before .loop .all) (c .before .before .loop .inv .1))
@@ -40,4 +29,4 @@ returns c =
 pub are-all-met-spec : {M : Type 1} → statement M
 are-all-met-spec =
     tie.close
-    (tie.spec Inv-loop μ-loop loop-holds shared-slice-read-all add-i loop-less loop-again returns)
+    (tie.spec Inv-loop μ-loop loop-holds (λ c. search needs) (λ c. search needs) (λ c. search needs) loop-again returns)

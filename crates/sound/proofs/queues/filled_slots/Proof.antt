@@ -8,9 +8,6 @@ use Rattle.sound.specs.Lines.{filled}
 use Rattle.sound.proofs.Scan.{taken-most, filled-at, filled-end}
 use Rattle.sound.proofs.queues.filled_slots.Statement.{statement}
 use Rattle.sound.proofs.queues.filled_slots.Tie as tie
-use Rattle.sound.proofs.queues.filled_slots.Reads as reads
-use Rattle.sound.proofs.queues.filled_slots.Lts as lts
-use Rattle.sound.proofs.queues.is_taken.Reads as is-taken-reads
 
 abbrev Inv-loop : tie.InvT-loop
 Inv-loop ids n₀ j₀ n j = (j ≤ 32) × (n ≤ j) × (n + filled (drop j ids) ≡ filled ids)
@@ -21,20 +18,8 @@ abbrev μ-loop : tie.MeasureT-loop
 loop-holds : tie.Need-loop-holds Inv-loop μ-loop
 loop-holds c = (omega arith, omega arith, zero-add _)
 
-shared-slice-read-is-taken : tie.Need-shared-slice-read-is-taken Inv-loop μ-loop
-shared-slice-read-is-taken c = search needs
-
-is-taken-requires : tie.Need-is-taken-requires Inv-loop μ-loop
-is-taken-requires c κs = search needs
-
 add-n : tie.Need-add-n Inv-loop μ-loop
 add-n c = omega (arith, c .is-taken .ensures, taken-most (getD (c .before .before .before .before .before .args .ids .now) (c .before .before .before .loop .j) 0))
-
-add-j : tie.Need-add-j Inv-loop μ-loop
-add-j c = search needs
-
-loop-less : tie.Need-loop-less Inv-loop μ-loop
-loop-less c = search needs
 
 loop-again : tie.Need-loop-again Inv-loop μ-loop
 loop-again c =
@@ -52,10 +37,10 @@ filled-slots-spec =
     Inv-loop
     μ-loop
     loop-holds
-    shared-slice-read-is-taken
-    is-taken-requires
+    (λ c. search needs)
+    (λ c κs. search needs)
     add-n
-    add-j
-    loop-less
+    (λ c. search needs)
+    (λ c. search needs)
     loop-again
     returns)

@@ -8,10 +8,6 @@ use Rattle.sound.specs.Lines.{may-task}
 use Rattle.sound.proofs.Scan.{Turn, turn-start, turn-inside, turn-more, turn-stop, turn-end}
 use Rattle.sound.proofs.queues.is_lined.Statement.{statement}
 use Rattle.sound.proofs.queues.is_lined.Tie as tie
-use Rattle.sound.proofs.queues.is_lined.Reads as reads
-use Rattle.sound.proofs.queues.is_lined.Lts as lts
-use Rattle.sound.proofs.queues.filled_slots.Reads as filled-slots-reads
-use Rattle.sound.proofs.queues.may_stand.Reads as may-stand-reads
 
 abbrev Inv-loop : tie.InvT-loop
 Inv-loop ids keys spots₀ q n key₀ j₀ spots key j = Turn keys ids spots₀ q n key spots j
@@ -19,14 +15,8 @@ Inv-loop ids keys spots₀ q n key₀ j₀ spots key j = Turn keys ids spots₀ 
 abbrev μ-loop : tie.MeasureT-loop
 μ-loop ids keys spots₀ q n key₀ j₀ spots key j = n - j
 
-filled-slots-requires : tie.Need-filled-slots-requires Inv-loop μ-loop
-filled-slots-requires c κs = search needs
-
 loop-holds : tie.Need-loop-holds Inv-loop μ-loop
 loop-holds c = turn-start (c .before .before .before .before .pre .2) (c .filled-slots .ensures)
-
-cast-v : tie.Need-cast-v Inv-loop μ-loop
-cast-v c = search needs
 
 shared-slice-read-v : tie.Need-shared-slice-read-v Inv-loop μ-loop
 shared-slice-read-v c = turn-inside (c .before .before .loop .inv) (omega arith)
@@ -52,12 +42,6 @@ shared-slice-read-key c = omega (arith, may-task (c .before .before .before .bef
 slice-write-spots : tie.Need-slice-write-spots Inv-loop μ-loop
 slice-write-spots c = omega (arith, c .before .before .before .before .before .before .loop .inv .slots, may-task (c .before .before .before .before .before .before .before .before .before .before .before .args .q) (c .before .before .before .before .before .before .loop .key) (c .before .before .before .before .before .before .before .before .before .before .before .args .keys .now) (c .before .before .before .before .before .before .loop .spots) (getD (c .before .before .before .before .before .before .before .before .before .before .before .args .ids .now) (c .before .before .before .before .before .before .loop .j) 0) (sym (c .before .before .may-stand .ensures) ∙ not-false (c .before .before .may-stand .result) (c .before .if1 .left)))
 
-add-j : tie.Need-add-j Inv-loop μ-loop
-add-j c = search needs
-
-loop-less : tie.Need-loop-less Inv-loop μ-loop
-loop-less c = omega arith
-
 loop-again : tie.Need-loop-again Inv-loop μ-loop
 loop-again c = turn-more (c .before .before .before .before .before .before .loop .inv) (omega arith) (sym (c .before .before .may-stand .ensures) ∙ not-false (c .before .before .may-stand .result) (c .before .if1 .left))
 
@@ -73,9 +57,9 @@ is-lined-spec =
     (tie.spec
     Inv-loop
     μ-loop
-    filled-slots-requires
+    (λ c κs. search needs)
     loop-holds
-    cast-v
+    (λ c. search needs)
     shared-slice-read-v
     may-stand-requires
     same-length
@@ -84,8 +68,8 @@ is-lined-spec =
     sub-i
     shared-slice-read-key
     slice-write-spots
-    add-j
-    loop-less
+    (λ c. search needs)
+    (λ c. omega arith)
     loop-again
     same-length-2
     returns-2)

@@ -1,8 +1,6 @@
 use borrow.Author.Tests.{eq-eqb, ne-eqb}
 use Rattle.sound.proofs.queues.is_taken.Statement.{statement}
 use Rattle.sound.proofs.queues.is_taken.Tie as tie
-use Rattle.sound.proofs.queues.is_taken.Reads as reads
-use Rattle.sound.proofs.queues.is_taken.Lts as lts
 
 returns : tie.Need-returns
 returns c = rw (eq-eqb _ _ (c .if1 .taken))

@@ -5,8 +5,6 @@ use Prim.Native.Nat.{_<_, _≤_}
 use borrow.Author.Needs.{needs}
 use Rattle.sound.proofs.queues.may_stand.Statement.{statement}
 use Rattle.sound.proofs.queues.may_stand.Tie as tie
-use Rattle.sound.proofs.queues.may_stand.Reads as reads
-use Rattle.sound.proofs.queues.may_stand.Lts as lts
 
 returns : tie.Need-returns
 unfolding mayStand
@@ -18,15 +16,6 @@ returns-2 c =
     let v = c .before .before .args .v in
     let h : 32 < v = omega arith in
     rw (ne-eqb _ _ (c .before .if1 .left), lt-leb v 32 h)
-
-sub-i : tie.Need-sub-i
-sub-i c = search needs
-
-shared-slice-read-result : tie.Need-shared-slice-read-result
-shared-slice-read-result c = search needs
-
-shared-slice-read-result-2 : tie.Need-shared-slice-read-result-2
-shared-slice-read-result-2 c = search needs
 
 returns-3 : tie.Need-returns-3
 unfolding mayStand
@@ -41,7 +30,7 @@ may-stand-spec =
     (tie.spec
     returns
     returns-2
-    sub-i
-    shared-slice-read-result
-    shared-slice-read-result-2
+    (λ c. search needs)
+    (λ c. search needs)
+    (λ c. search needs)
     returns-3)

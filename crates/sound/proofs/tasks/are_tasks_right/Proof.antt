@@ -7,53 +7,31 @@ use lib.ListN.{length, length-set}
 use Rattle.rules.specs.Table.{taskOf}
 use Rattle.rules.specs.Sound.{each}
 use Rattle.table.specs.Image.{view}
-use Rattle.sound.specs.Tasks.{isTaskRight, spotOf, spot-past, spot-here}
+use Rattle.sound.specs.Tasks.{isTaskPassed, spotOf, spot-past, spot-here}
 use Rattle.sound.specs.Tests.{each-none, each-more, each-stop}
 use Rattle.sound.specs.Shows.{Shows, shows-none, shows-more}
 use Rattle.sound.proofs.tasks.are_tasks_right.Statement.{statement}
 use Rattle.sound.proofs.tasks.are_tasks_right.Tie as tie
-use Rattle.sound.proofs.tasks.are_tasks_right.Reads as reads
-use Rattle.sound.proofs.tasks.are_tasks_right.Lts as lts
-use Rattle.sound.proofs.tasks.spot_in.Reads as spot-in-reads
-use Rattle.table.proofs.cells.get_tick.Reads as get-tick-reads
 
 abbrev Inv-loop : tie.InvT-loop
 Inv-loop s spots₀ tick i₀ spots i =
     (i ≤ 32)
     × (length spots ≡ 32)
-    × (each i (λ j. isTaskRight (view s) j (taskOf (view s) j)) ≡ true)
+    × (each i (λ j. isTaskPassed (view s) j (taskOf (view s) j)) ≡ true)
     × Shows spots (λ j. spotOf (taskOf (view s) j)) i
 
 abbrev μ-loop : tie.MeasureT-loop
 μ-loop s spots₀ tick i₀ spots i = 32 - i
 
-get-tick-requires : tie.Need-get-tick-requires Inv-loop μ-loop
-get-tick-requires c κs = search needs
-
 loop-holds : tie.Need-loop-holds Inv-loop μ-loop
 loop-holds c = (omega arith, c .before .before .before .pre .1, each-none _, shows-none _ _)
-
-spot-in-requires : tie.Need-spot-in-requires Inv-loop μ-loop
-spot-in-requires c κs = search needs
-
-same-length : tie.Need-same-length Inv-loop μ-loop
-same-length c = omega arith
 
 returns : tie.Need-returns Inv-loop μ-loop
 returns c =
     let t = view (c .before .before .before .before .before .before .before .args .s .now) in
     let i = c .before .before .before .loop .i in
     let h = spot-past t i (taskOf t i) (omega (arith, c .before .spot-in .ensures)) in
-    record { test = each-stop (λ j. isTaskRight t j (taskOf t j)) 32 i (omega arith) h; tick = omega (arith, c .before .before .before .before .get-tick .ensures); spotted = λ e. absurd (false≢true e) }
-
-slice-write-spots : tie.Need-slice-write-spots Inv-loop μ-loop
-slice-write-spots c = search needs
-
-add-i : tie.Need-add-i Inv-loop μ-loop
-add-i c = search needs
-
-loop-less : tie.Need-loop-less Inv-loop μ-loop
-loop-less c = omega arith
+    record { test = each-stop (λ j. isTaskPassed t j (taskOf t j)) 32 i (omega arith) h; tick = omega (arith, c .before .before .before .before .get-tick .ensures); spotted = λ e. absurd (false≢true e) }
 
 loop-again : tie.Need-loop-again Inv-loop μ-loop
 loop-again c =
@@ -61,10 +39,7 @@ loop-again c =
     let i = c .before .before .before .loop .i in
     let h = spot-here t i (taskOf t i) (omega (arith, c .before .spot-in .ensures)) in
     let v = c .before .before .before .loop .inv in
-    (omega arith, simp length-set (omega arith), each-more (λ j. isTaskRight t j (taskOf t j)) i (v .2) (h .0), shows-more _ (omega arith) (c .before .spot-in .ensures ∙ h .1) (v .3))
-
-same-length-2 : tie.Need-same-length-2 Inv-loop μ-loop
-same-length-2 c = omega arith
+    (omega arith, simp length-set (omega arith), each-more (λ j. isTaskPassed t j (taskOf t j)) i (v .2) (h .0), shows-more _ (omega arith) (c .before .spot-in .ensures ∙ h .1) (v .3))
 
 returns-2 : tie.Need-returns-2 Inv-loop μ-loop
 returns-2 c =
@@ -78,14 +53,14 @@ are-tasks-right-spec =
     (tie.spec
     Inv-loop
     μ-loop
-    get-tick-requires
+    (λ c κs. search needs)
     loop-holds
-    spot-in-requires
-    same-length
+    (λ c κs. search needs)
+    (λ c. omega arith)
     returns
-    slice-write-spots
-    add-i
-    loop-less
+    (λ c. search needs)
+    (λ c. search needs)
+    (λ c. omega arith)
     loop-again
-    same-length-2
+    (λ c. omega arith)
     returns-2)

@@ -5,8 +5,6 @@ use native.Mathlib.Omega.{arith}
 use Rattle.rules.specs.Sound.{marksIn}
 use Rattle.sound.proofs.tasks.is_mark.Statement.{statement}
 use Rattle.sound.proofs.tasks.is_mark.Tie as tie
-use Rattle.sound.proofs.tasks.is_mark.Reads as reads
-use Rattle.sound.proofs.tasks.is_mark.Lts as lts
 
 returns : tie.Need-returns
 unfolding marksIn

@@ -2,8 +2,6 @@ use mathlib.Core.Path.{refl}
 use Rattle.sound.specs.Tasks.{isTimely}
 use Rattle.sound.proofs.tasks.is_timely.Statement.{statement}
 use Rattle.sound.proofs.tasks.is_timely.Tie as tie
-use Rattle.sound.proofs.tasks.is_timely.Reads as reads
-use Rattle.sound.proofs.tasks.is_timely.Lts as lts
 
 returns : tie.Need-returns
 unfolding isTimely

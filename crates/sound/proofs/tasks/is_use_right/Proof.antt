@@ -7,17 +7,6 @@ use Rattle.sound.specs.Tests.{and-first}
 use borrow.Author.Needs.{needs}
 use Rattle.sound.proofs.tasks.is_use_right.Statement.{statement}
 use Rattle.sound.proofs.tasks.is_use_right.Tie as tie
-use Rattle.sound.proofs.tasks.is_use_right.Reads as reads
-use Rattle.sound.proofs.tasks.is_use_right.Lts as lts
-use Rattle.sound.proofs.tasks.is_fit.Reads as is-fit-reads
-use Rattle.sound.proofs.tasks.is_served.Reads as is-served-reads
-use Rattle.sound.proofs.tasks.is_timely.Reads as is-timely-reads
-
-is-fit-requires : tie.Need-is-fit-requires
-is-fit-requires c κs = search needs
-
-is-timely-requires : tie.Need-is-timely-requires
-is-timely-requires c κs = search needs
 
 returns : tie.Need-returns
 unfolding isUseRight
@@ -42,4 +31,4 @@ returns-2 c =
 
 pub is-use-right-spec : {M : Type 1} → statement M
 is-use-right-spec =
-    tie.close (tie.spec is-fit-requires is-timely-requires returns is-served-requires returns-2)
+    tie.close (tie.spec (λ c κs. search needs) (λ c κs. search needs) returns is-served-requires returns-2)

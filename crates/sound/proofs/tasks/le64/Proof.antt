@@ -3,32 +3,6 @@ use Rattle.table.specs.Parts.{wordAt}
 use borrow.Author.Needs.{needs}
 use Rattle.sound.proofs.tasks.le64.Statement.{statement}
 use Rattle.sound.proofs.tasks.le64.Tie as tie
-use Rattle.sound.proofs.tasks.le64.Reads as reads
-use Rattle.sound.proofs.tasks.le64.Lts as lts
-
-mul-result : tie.Need-mul-result
-mul-result c = search needs
-
-add-result : tie.Need-add-result
-add-result c = search needs
-
-mul-result-2 : tie.Need-mul-result-2
-mul-result-2 c = search needs
-
-add-result-2 : tie.Need-add-result-2
-add-result-2 c = search needs
-
-mul-result-3 : tie.Need-mul-result-3
-mul-result-3 c = search needs
-
-add-result-3 : tie.Need-add-result-3
-add-result-3 c = search needs
-
-mul-result-4 : tie.Need-mul-result-4
-mul-result-4 c = search needs
-
-add-result-4 : tie.Need-add-result-4
-add-result-4 c = search needs
 
 returns : tie.Need-returns
 unfolding wordAt
@@ -38,12 +12,12 @@ pub le64-spec : {M : Type 1} → statement M
 le64-spec =
     tie.close
     (tie.spec
-    mul-result
-    add-result
-    mul-result-2
-    add-result-2
-    mul-result-3
-    add-result-3
-    mul-result-4
-    add-result-4
+    (λ c. search needs)
+    (λ c. search needs)
+    (λ c. search needs)
+    (λ c. search needs)
+    (λ c. search needs)
+    (λ c. search needs)
+    (λ c. search needs)
+    (λ c. search needs)
     returns)

@@ -1,20 +1,18 @@
 use borrow.Author.Tests.{eq-eqb, ne-eqb}
-use Rattle.rules.specs.Sound.{objectsIn}
+use Rattle.rules.specs.Family.{ofState}
 use Rattle.sound.proofs.tasks.objects_in.Statement.{statement}
 use Rattle.sound.proofs.tasks.objects_in.Tie as tie
-use Rattle.sound.proofs.tasks.objects_in.Reads as reads
-use Rattle.sound.proofs.tasks.objects_in.Lts as lts
 
 returns : tie.Need-returns
-unfolding objectsIn
+unfolding ofState
 returns c = rw (eq-eqb _ _ (c .if1 .taken))
 
 returns-2 : tie.Need-returns-2
-unfolding objectsIn
+unfolding ofState
 returns-2 c = rw (ne-eqb _ _ (c .before .if1 .left), eq-eqb _ _ (c .if2 .taken))
 
 returns-3 : tie.Need-returns-3
-unfolding objectsIn
+unfolding ofState
 returns-3 c = rw (ne-eqb _ _ (c .before .if1 .left), ne-eqb _ _ (c .if2 .left))
 
 pub objects-in-spec : {M : Type 1} → statement M

@@ -8,15 +8,6 @@ use Rattle.sound.specs.Tasks.{isUseRight, spotOf, spot-blank, spot-used}
 use borrow.Author.Needs.{needs}
 use Rattle.sound.proofs.tasks.spot_in.Statement.{statement}
 use Rattle.sound.proofs.tasks.spot_in.Tie as tie
-use Rattle.sound.proofs.tasks.spot_in.Reads as reads
-use Rattle.sound.proofs.tasks.spot_in.Lts as lts
-use Rattle.sound.proofs.tasks.is_free.Reads as is-free-reads
-use Rattle.sound.proofs.tasks.is_use_right.Reads as is-use-right-reads
-use Rattle.sound.proofs.tasks.spot_of.Reads as spot-of-reads
-use Rattle.table.proofs.cells.get_task.Reads as get-task-reads
-
-is-free-requires : tie.Need-is-free-requires
-is-free-requires c κs = search needs
 
 returns : tie.Need-returns
 returns c =
@@ -25,12 +16,6 @@ returns c =
     let free : isNoTask k ≡ true = cc in
     spot-blank (view (a .s .now)) (a .i) k free
 
-get-task-requires : tie.Need-get-task-requires
-get-task-requires c κs = search needs
-
-is-use-right-requires : tie.Need-is-use-right-requires
-is-use-right-requires c κs = search needs
-
 returns-2 : tie.Need-returns-2
 returns-2 c =
     let a = c .before .before .before .before .before .before .args in
@@ -38,9 +23,6 @@ returns-2 c =
     let free : isNoTask k ≡ false = cc in
     let right : isUseRight (view (a .s .now)) (a .i) k ≡ false = cc (not-true (c .before .is-use-right .result) (c .if2 .taken)) in
     spot-used (view (a .s .now)) (a .i) k false free right
-
-spot-of-requires : tie.Need-spot-of-requires
-spot-of-requires c κs = search needs
 
 returns-3 : tie.Need-returns-3
 returns-3 c =
@@ -54,10 +36,10 @@ pub spot-in-spec : {M : Type 1} → statement M
 spot-in-spec =
     tie.close
     (tie.spec
-    is-free-requires
+    (λ c κs. search needs)
     returns
-    get-task-requires
-    is-use-right-requires
+    (λ c κs. search needs)
+    (λ c κs. search needs)
     returns-2
-    spot-of-requires
+    (λ c κs. search needs)
     returns-3)

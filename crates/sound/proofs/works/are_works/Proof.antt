@@ -7,15 +7,12 @@ use lib.ListN.{getD}
 use Rattle.rules.specs.Table.{taskOf}
 use Rattle.rules.specs.declared.Task.{Task}
 use Rattle.rules.specs.Move.{freshIn}
-use Rattle.rules.specs.Sound.{each, isWorked}
+use Rattle.rules.specs.Sound.{each, isWorkedOut}
 use Rattle.table.specs.Image.{view, taskIn, taskAt}
 use Rattle.table.specs.Shape.{view-task}
 use Rattle.sound.specs.Tests.{each-none, each-and}
 use Rattle.sound.proofs.works.are_works.Statement.{statement}
 use Rattle.sound.proofs.works.are_works.Tie as tie
-use Rattle.sound.proofs.works.are_works.Reads as reads
-use Rattle.sound.proofs.works.are_works.Lts as lts
-use Rattle.chain.proofs.fresh_of.Reads as fresh-of-reads
 
 abbrev Inv-loop : tie.InvT-loop
 Inv-loop s given all₀ i₀ all i = (i ≤ 32) × (all ≡ each i (λ j. eqb (taskOf (view s) j .work) (freshIn (view s) j)))
@@ -25,18 +22,6 @@ abbrev μ-loop : tie.MeasureT-loop
 
 loop-holds : tie.Need-loop-holds Inv-loop μ-loop
 loop-holds c = (omega arith, sym (each-none _))
-
-fresh-of-requires : tie.Need-fresh-of-requires Inv-loop μ-loop
-fresh-of-requires c κs = search needs
-
-shared-slice-read-all : tie.Need-shared-slice-read-all Inv-loop μ-loop
-shared-slice-read-all c = search needs
-
-add-i : tie.Need-add-i Inv-loop μ-loop
-add-i c = search needs
-
-loop-less : tie.Need-loop-less Inv-loop μ-loop
-loop-less c = search needs
 
 loop-again : tie.Need-loop-again Inv-loop μ-loop
 unfolding taskAt taskIn
@@ -48,7 +33,7 @@ loop-again c =
     (omega arith, rw (c .before .fresh-of .ensures, ← w) (each-and (λ j. eqb (taskOf t j .work) (freshIn t j)) i (c .before .before .before .loop .all) (c .before .before .before .loop .inv .1)))
 
 returns : tie.Need-returns Inv-loop μ-loop
-unfolding isWorked
+unfolding isWorkedOut
 returns c =
     let e : c .before .loop .i ≡ 32 = omega arith in
     rw e at (c .before .loop .inv .1)
@@ -60,9 +45,9 @@ are-works-spec =
     Inv-loop
     μ-loop
     loop-holds
-    fresh-of-requires
-    shared-slice-read-all
-    add-i
-    loop-less
+    (λ c κs. search needs)
+    (λ c. search needs)
+    (λ c. search needs)
+    (λ c. search needs)
     loop-again
     returns)

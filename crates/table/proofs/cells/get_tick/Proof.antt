@@ -3,15 +3,9 @@ use Rattle.table.specs.Shape.{view-tick}
 use borrow.Author.Needs.{needs}
 use Rattle.table.proofs.cells.get_tick.Statement.{statement}
 use Rattle.table.proofs.cells.get_tick.Tie as tie
-use Rattle.table.proofs.cells.get_tick.Reads as reads
-use Rattle.table.proofs.cells.get_tick.Lts as lts
-use Rattle.table.proofs.cells.four_at.Reads as four-at-reads
-
-four-at-requires : tie.Need-four-at-requires
-four-at-requires c κs = search needs
 
 returns : tie.Need-returns
 returns c = c .four-at .ensures ∙ sym (view-tick (c .before .before .args .s .now))
 
 pub get-tick-spec : {M : Type 1} → statement M
-get-tick-spec = tie.close (tie.spec four-at-requires returns)
+get-tick-spec = tie.close (tie.spec (λ c κs. search needs) returns)

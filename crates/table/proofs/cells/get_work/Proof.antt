@@ -5,11 +5,6 @@ use Rattle.table.specs.Shape.{view-task}
 use borrow.Author.Needs.{needs}
 use Rattle.table.proofs.cells.get_work.Statement.{statement}
 use Rattle.table.proofs.cells.get_work.Tie as tie
-use Rattle.table.proofs.cells.get_work.Reads as reads
-use Rattle.table.proofs.cells.get_work.Lts as lts
-
-shared-slice-read-result : tie.Need-shared-slice-read-result
-shared-slice-read-result c = search needs
 
 returns : tie.Need-returns
 unfolding taskAt taskIn
@@ -18,4 +13,4 @@ returns c =
     sym (ap (λ (k : Task). k .work) (view-task (a .s .now) (a .i) (c .before .pre .0)))
 
 pub get-work-spec : {M : Type 1} → statement M
-get-work-spec = tie.close (tie.spec shared-slice-read-result returns)
+get-work-spec = tie.close (tie.spec (λ c. search needs) returns)

@@ -3,26 +3,6 @@ use Rattle.table.specs.Parts.{wordAt}
 use borrow.Author.Needs.{needs}
 use Rattle.table.proofs.cells.le32.Statement.{statement}
 use Rattle.table.proofs.cells.le32.Tie as tie
-use Rattle.table.proofs.cells.le32.Reads as reads
-use Rattle.table.proofs.cells.le32.Lts as lts
-
-mul-result : tie.Need-mul-result
-mul-result c = search needs
-
-add-result : tie.Need-add-result
-add-result c = search needs
-
-mul-result-2 : tie.Need-mul-result-2
-mul-result-2 c = search needs
-
-add-result-2 : tie.Need-add-result-2
-add-result-2 c = search needs
-
-mul-result-3 : tie.Need-mul-result-3
-mul-result-3 c = search needs
-
-add-result-3 : tie.Need-add-result-3
-add-result-3 c = search needs
 
 returns : tie.Need-returns
 unfolding wordAt
@@ -31,4 +11,4 @@ returns c = omega arith
 pub le32-spec : {M : Type 1} → statement M
 le32-spec =
     tie.close
-    (tie.spec mul-result add-result mul-result-2 add-result-2 mul-result-3 add-result-3 returns)
+    (tie.spec (λ c. search needs) (λ c. search needs) (λ c. search needs) (λ c. search needs) (λ c. search needs) (λ c. search needs) returns)

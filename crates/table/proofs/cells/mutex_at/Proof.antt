@@ -8,15 +8,6 @@ use Rattle.table.specs.Shape.{view-shaped}
 use borrow.Author.Needs.{needs}
 use Rattle.table.proofs.cells.mutex_at.Statement.{statement}
 use Rattle.table.proofs.cells.mutex_at.Tie as tie
-use Rattle.table.proofs.cells.mutex_at.Reads as reads
-use Rattle.table.proofs.cells.mutex_at.Lts as lts
-use Rattle.table.proofs.cells.get_mutex.Reads as get-mutex-reads
-
-get-mutex-requires : tie.Need-get-mutex-requires
-get-mutex-requires c κs = search needs
-
-returns : tie.Need-returns
-returns c = search needs
 
 returns-2 : tie.Need-returns-2
 returns-2 c =
@@ -25,4 +16,4 @@ returns-2 c =
     sym (List·getD-eq-default (view (a .s .now) .mutexes) noMutex h)
 
 pub mutex-at-spec : {M : Type 1} → statement M
-mutex-at-spec = tie.close (tie.spec get-mutex-requires returns returns-2)
+mutex-at-spec = tie.close (tie.spec (λ c κs. search needs) (λ c. search needs) returns-2)

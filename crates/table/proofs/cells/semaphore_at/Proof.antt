@@ -8,15 +8,6 @@ use Rattle.table.specs.Shape.{view-shaped}
 use borrow.Author.Needs.{needs}
 use Rattle.table.proofs.cells.semaphore_at.Statement.{statement}
 use Rattle.table.proofs.cells.semaphore_at.Tie as tie
-use Rattle.table.proofs.cells.semaphore_at.Reads as reads
-use Rattle.table.proofs.cells.semaphore_at.Lts as lts
-use Rattle.table.proofs.cells.get_semaphore.Reads as get-semaphore-reads
-
-get-semaphore-requires : tie.Need-get-semaphore-requires
-get-semaphore-requires c κs = search needs
-
-returns : tie.Need-returns
-returns c = search needs
 
 returns-2 : tie.Need-returns-2
 returns-2 c =
@@ -25,4 +16,4 @@ returns-2 c =
     sym (List·getD-eq-default (view (a .s .now) .semaphores) noSemaphore h)
 
 pub semaphore-at-spec : {M : Type 1} → statement M
-semaphore-at-spec = tie.close (tie.spec get-semaphore-requires returns returns-2)
+semaphore-at-spec = tie.close (tie.spec (λ c κs. search needs) (λ c. search needs) returns-2)

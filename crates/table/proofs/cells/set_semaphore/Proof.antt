@@ -12,39 +12,12 @@ use Rattle.table.proofs.Stores.{store-semaphore}
 use borrow.Author.Needs.{needs}
 use Rattle.table.proofs.cells.set_semaphore.Statement.{statement}
 use Rattle.table.proofs.cells.set_semaphore.Tie as tie
-use Rattle.table.proofs.cells.set_semaphore.Reads as reads
-use Rattle.table.proofs.cells.set_semaphore.Lts as lts
-use Rattle.table.proofs.cells.write_semaphore.Reads as write-semaphore-reads
 
 returns : tie.Need-returns
 returns c =
     let a = c .before .before .args in
     let h : length (view (a .s .now) .semaphores) ≤ a .i = omega (arith, view-shaped (a .s .now) (omega arith) .semaphores) in
     rw (set-out (view (a .s .now) .semaphores) (a .i) (a .x) h)
-
-mul-a : tie.Need-mul-a
-mul-a c = search needs
-
-add-a : tie.Need-add-a
-add-a c = search needs
-
-add-e : tie.Need-add-e
-add-e c = search needs
-
-sub-write-semaphore : tie.Need-sub-write-semaphore
-sub-write-semaphore c = search needs
-
-part-write-semaphore-start : tie.Need-part-write-semaphore-start
-part-write-semaphore-start c = search needs
-
-part-write-semaphore-end : tie.Need-part-write-semaphore-end
-part-write-semaphore-end c = search needs
-
-write-semaphore-requires : tie.Need-write-semaphore-requires
-write-semaphore-requires c κs = search needs
-
-same-length : tie.Need-same-length
-same-length c = search needs
 
 returns-2 : tie.Need-returns-2
 returns-2 c =
@@ -58,12 +31,12 @@ set-semaphore-spec =
     tie.close
     (tie.spec
     returns
-    mul-a
-    add-a
-    add-e
-    sub-write-semaphore
-    part-write-semaphore-start
-    part-write-semaphore-end
-    write-semaphore-requires
-    same-length
+    (λ c. search needs)
+    (λ c. search needs)
+    (λ c. search needs)
+    (λ c. search needs)
+    (λ c. search needs)
+    (λ c. search needs)
+    (λ c κs. search needs)
+    (λ c. search needs)
     returns-2)

@@ -10,64 +10,18 @@ use Rattle.table.proofs.Stores.{store-task}
 use borrow.Author.Needs.{needs}
 use Rattle.table.proofs.cells.set_task.Statement.{statement}
 use Rattle.table.proofs.cells.set_task.Tie as tie
-use Rattle.table.proofs.cells.set_task.Reads as reads
-use Rattle.table.proofs.cells.set_task.Lts as lts
-use Rattle.table.proofs.cells.write_task.Reads as write-task-reads
-use Rattle.table.proofs.cells.write_word.Reads as write-word-reads
-
-mul-d : tie.Need-mul-d
-mul-d c = search needs
-
-add-d : tie.Need-add-d
-add-d c = search needs
-
-add-f : tie.Need-add-f
-add-f c = search needs
-
-mul-a : tie.Need-mul-a
-mul-a c = search needs
-
-add-a : tie.Need-add-a
-add-a c = search needs
-
-add-e : tie.Need-add-e
-add-e c = search needs
-
-slice-write-s : tie.Need-slice-write-s
-slice-write-s c = search needs
-
-add-s : tie.Need-add-s
-add-s c = search needs
 
 slice-write-s-2 : tie.Need-slice-write-s-2
 slice-write-s-2 c = simp length-set (omega arith)
 
-sub-write-word : tie.Need-sub-write-word
-sub-write-word c = search needs
-
-part-write-word-start : tie.Need-part-write-word-start
-part-write-word-start c = search needs
-
 part-write-word-end : tie.Need-part-write-word-end
 part-write-word-end c = simp length-set (omega arith)
-
-write-word-requires : tie.Need-write-word-requires
-write-word-requires c κs = search needs
-
-sub-write-task : tie.Need-sub-write-task
-sub-write-task c = search needs
-
-part-write-task-start : tie.Need-part-write-task-start
-part-write-task-start c = search needs
 
 part-write-task-end : tie.Need-part-write-task-end
 part-write-task-end c =
     let a = c .before .before .before .before .before .args in
     let n : length (set (set (a .s .now) (a .i) (a .k .work)) (stateAt (a .i)) (a .k .state)) ≡ 1702 = simp length-set (omega arith) in
     omega (arith, c .before .s .given .1, n)
-
-write-task-requires : tie.Need-write-task-requires
-write-task-requires c κs = search needs
 
 same-length : tie.Need-same-length
 same-length c =
@@ -93,22 +47,22 @@ pub set-task-spec : {M : Type 1} → statement M
 set-task-spec =
     tie.close
     (tie.spec
-    mul-d
-    add-d
-    add-f
-    mul-a
-    add-a
-    add-e
-    slice-write-s
-    add-s
+    (λ c. search needs)
+    (λ c. search needs)
+    (λ c. search needs)
+    (λ c. search needs)
+    (λ c. search needs)
+    (λ c. search needs)
+    (λ c. search needs)
+    (λ c. search needs)
     slice-write-s-2
-    sub-write-word
-    part-write-word-start
+    (λ c. search needs)
+    (λ c. search needs)
     part-write-word-end
-    write-word-requires
-    sub-write-task
-    part-write-task-start
+    (λ c κs. search needs)
+    (λ c. search needs)
+    (λ c. search needs)
     part-write-task-end
-    write-task-requires
+    (λ c κs. search needs)
     same-length
     returns)

@@ -8,19 +8,6 @@ use Rattle.table.specs.Shape.{view-shaped}
 use borrow.Author.Needs.{needs}
 use Rattle.table.proofs.cells.task_at.Statement.{statement}
 use Rattle.table.proofs.cells.task_at.Tie as tie
-use Rattle.table.proofs.cells.task_at.Reads as reads
-use Rattle.table.proofs.cells.task_at.Lts as lts
-use Rattle.table.proofs.cells.get_task.Reads as get-task-reads
-use Rattle.table.proofs.cells.no_task.Reads as no-task-reads
-
-get-task-requires : tie.Need-get-task-requires
-get-task-requires c κs = search needs
-
-returns : tie.Need-returns
-returns c = search needs
-
-no-task-requires : tie.Need-no-task-requires
-no-task-requires c κs = search needs
 
 returns-2 : tie.Need-returns-2
 returns-2 c =
@@ -29,4 +16,4 @@ returns-2 c =
     c .no-task .ensures ∙ sym (List·getD-eq-default (view (a .s .now) .tasks) noTask h)
 
 pub task-at-spec : {M : Type 1} → statement M
-task-at-spec = tie.close (tie.spec get-task-requires returns no-task-requires returns-2)
+task-at-spec = tie.close (tie.spec (λ c κs. search needs) (λ c. search needs) (λ c κs. search needs) returns-2)

@@ -6,28 +6,11 @@ use Rattle.table.proofs.Places.{put-joins}
 use borrow.Author.Needs.{needs}
 use Rattle.table.proofs.moves.bring_in.Statement.{statement}
 use Rattle.table.proofs.moves.bring_in.Tie as tie
-use Rattle.table.proofs.moves.bring_in.Reads as reads
-use Rattle.table.proofs.moves.bring_in.Lts as lts
-use Rattle.table.proofs.cells.set_task.Reads as set-task-reads
-use Rattle.table.proofs.moves.join_queue.Reads as join-queue-reads
-use Rattle.table.proofs.moves.place_of.Reads as place-of-reads
 
 returns : tie.Need-returns
 returns c =
     let a = c .before .before .args in
     sym (put-out (a .i) (a .k) (view (a .s .now)) (c .if1 .taken))
-
-set-task-requires : tie.Need-set-task-requires
-set-task-requires c κs = search needs
-
-place-of-requires : tie.Need-place-of-requires
-place-of-requires c κs = search needs
-
-join-queue-requires : tie.Need-join-queue-requires
-join-queue-requires c κs = search needs
-
-same-length : tie.Need-same-length
-same-length c = search needs
 
 returns-2 : tie.Need-returns-2
 returns-2 c =
@@ -39,8 +22,8 @@ bring-in-spec =
     tie.close
     (tie.spec
     returns
-    set-task-requires
-    place-of-requires
-    join-queue-requires
-    same-length
+    (λ c κs. search needs)
+    (λ c κs. search needs)
+    (λ c κs. search needs)
+    (λ c. search needs)
     returns-2)

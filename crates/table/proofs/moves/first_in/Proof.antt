@@ -9,8 +9,6 @@ use Rattle.table.proofs.Places.{view-first}
 use borrow.Author.Needs.{needs}
 use Rattle.table.proofs.moves.first_in.Statement.{statement}
 use Rattle.table.proofs.moves.first_in.Tie as tie
-use Rattle.table.proofs.moves.first_in.Reads as reads
-use Rattle.table.proofs.moves.first_in.Lts as lts
 
 returns : tie.Need-returns
 returns c =
@@ -19,17 +17,8 @@ returns c =
     let h : length (t .queues) ≤ a .q = omega (arith, view-shaped (a .s .now) (omega arith) .queues) in
     ap (λ (l : List ℕ). getD l 0 0) (sym (List·getD-eq-default (t .queues) [] h))
 
-mul-result : tie.Need-mul-result
-mul-result c = search needs
-
-add-result : tie.Need-add-result
-add-result c = search needs
-
-shared-slice-read-result : tie.Need-shared-slice-read-result
-shared-slice-read-result c = search needs
-
 returns-2 : tie.Need-returns-2
 returns-2 c = let a = c .before .before .args in sym (view-first (a .s .now) (a .q) (omega arith))
 
 pub first-in-spec : {M : Type 1} → statement M
-first-in-spec = tie.close (tie.spec returns mul-result add-result shared-slice-read-result returns-2)
+first-in-spec = tie.close (tie.spec returns (λ c. search needs) (λ c. search needs) (λ c. search needs) returns-2)

@@ -2,8 +2,6 @@ use mathlib.Core.Path.{refl}
 use Rattle.rules.specs.Table.{isAble}
 use Rattle.table.proofs.moves.is_able.Statement.{statement}
 use Rattle.table.proofs.moves.is_able.Tie as tie
-use Rattle.table.proofs.moves.is_able.Reads as reads
-use Rattle.table.proofs.moves.is_able.Lts as lts
 
 returns : tie.Need-returns
 unfolding isAble

@@ -10,48 +10,11 @@ use Rattle.table.proofs.Places.{join-not, joined-queue}
 use borrow.Author.Needs.{needs}
 use Rattle.table.proofs.moves.join_queue.Statement.{statement}
 use Rattle.table.proofs.moves.join_queue.Tie as tie
-use Rattle.table.proofs.moves.join_queue.Reads as reads
-use Rattle.table.proofs.moves.join_queue.Lts as lts
-use Rattle.queue.proofs.open.Reads as open-reads
-use Rattle.table.proofs.moves.place_in.Reads as place-in-reads
 
 returns : tie.Need-returns
 returns c =
     let a = c .before .before .args in
     sym (join-not (a .q) (a .i) (view (a .s .now)) (c .if1 .taken))
-
-mul-a : tie.Need-mul-a
-mul-a c = search needs
-
-add-a : tie.Need-add-a
-add-a c = search needs
-
-add-e : tie.Need-add-e
-add-e c = search needs
-
-place-in-requires : tie.Need-place-in-requires
-place-in-requires c κs = search needs
-
-sub-open : tie.Need-sub-open
-sub-open c = search needs
-
-part-open-start : tie.Need-part-open-start
-part-open-start c = search needs
-
-part-open-end : tie.Need-part-open-end
-part-open-end c = search needs
-
-cast-open : tie.Need-cast-open
-cast-open c = search needs
-
-add-open : tie.Need-add-open
-add-open c = search needs
-
-open-requires : tie.Need-open-requires
-open-requires c κs = search needs
-
-same-length : tie.Need-same-length
-same-length c = search needs
 
 returns-2 : tie.Need-returns-2
 returns-2 c =
@@ -68,15 +31,15 @@ join-queue-spec =
     tie.close
     (tie.spec
     returns
-    mul-a
-    add-a
-    add-e
-    place-in-requires
-    sub-open
-    part-open-start
-    part-open-end
-    cast-open
-    add-open
-    open-requires
-    same-length
+    (λ c. search needs)
+    (λ c. search needs)
+    (λ c. search needs)
+    (λ c κs. search needs)
+    (λ c. search needs)
+    (λ c. search needs)
+    (λ c. search needs)
+    (λ c. search needs)
+    (λ c. search needs)
+    (λ c κs. search needs)
+    (λ c. search needs)
     returns-2)

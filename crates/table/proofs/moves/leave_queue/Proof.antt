@@ -10,41 +10,11 @@ use Rattle.table.proofs.Places.{leave-not, left-queue}
 use borrow.Author.Needs.{needs}
 use Rattle.table.proofs.moves.leave_queue.Statement.{statement}
 use Rattle.table.proofs.moves.leave_queue.Tie as tie
-use Rattle.table.proofs.moves.leave_queue.Reads as reads
-use Rattle.table.proofs.moves.leave_queue.Lts as lts
-use Rattle.queue.proofs.remove.Reads as remove-reads
 
 returns : tie.Need-returns
 returns c =
     let a = c .before .before .args in
     sym (leave-not (a .q) (a .i) (view (a .s .now)) (c .if1 .taken))
-
-mul-a : tie.Need-mul-a
-mul-a c = search needs
-
-add-a : tie.Need-add-a
-add-a c = search needs
-
-add-e : tie.Need-add-e
-add-e c = search needs
-
-sub-remove : tie.Need-sub-remove
-sub-remove c = search needs
-
-part-remove-start : tie.Need-part-remove-start
-part-remove-start c = search needs
-
-part-remove-end : tie.Need-part-remove-end
-part-remove-end c = search needs
-
-cast-remove : tie.Need-cast-remove
-cast-remove c = search needs
-
-remove-requires : tie.Need-remove-requires
-remove-requires c κs = search needs
-
-same-length : tie.Need-same-length
-same-length c = search needs
 
 returns-2 : tie.Need-returns-2
 returns-2 c =
@@ -59,13 +29,13 @@ leave-queue-spec =
     tie.close
     (tie.spec
     returns
-    mul-a
-    add-a
-    add-e
-    sub-remove
-    part-remove-start
-    part-remove-end
-    cast-remove
-    remove-requires
-    same-length
+    (λ c. search needs)
+    (λ c. search needs)
+    (λ c. search needs)
+    (λ c. search needs)
+    (λ c. search needs)
+    (λ c. search needs)
+    (λ c. search needs)
+    (λ c κs. search needs)
+    (λ c. search needs)
     returns-2)

@@ -4,23 +4,14 @@ use Rattle.laws.specs.queues.Put.{put-out}
 use borrow.Author.Needs.{needs}
 use Rattle.table.proofs.moves.put_task.Statement.{statement}
 use Rattle.table.proofs.moves.put_task.Tie as tie
-use Rattle.table.proofs.moves.put_task.Reads as reads
-use Rattle.table.proofs.moves.put_task.Lts as lts
-use Rattle.table.proofs.moves.put_in.Reads as put-in-reads
 
 returns : tie.Need-returns
 returns c =
     let a = c .before .before .args in
     sym (put-out (a .i) (a .k) (view (a .s .now)) (c .if1 .taken))
 
-put-in-requires : tie.Need-put-in-requires
-put-in-requires c κs = search needs
-
-same-length : tie.Need-same-length
-same-length c = search needs
-
 returns-2 : tie.Need-returns-2
 returns-2 c = search needs
 
 pub put-task-spec : {M : Type 1} → statement M
-put-task-spec = tie.close (tie.spec returns put-in-requires same-length returns-2)
+put-task-spec = tie.close (tie.spec returns (λ c κs. search needs) (λ c. search needs) returns-2)
