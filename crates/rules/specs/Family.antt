@@ -11,7 +11,7 @@ use Rattle.rules.specs.declared.Task.{Task}
 use Rattle.rules.specs.Table.{Table, semaphoreOf, mutexOf, holderOf, queueCount, ableQueue, semaphoreQueue, mutexQueue, isAble, noSemaphore, noMutex, withSemaphore, withMutex}
 
 pub record Family : Type 0 where
-  -- the state of a task that waits for one of them, how many other are, and the queue of number 0, before those of the others
+  -- the state of a task that waits for one of them, how many there are, and the queue of number 0, before those of the others
   pub state : ℕ
   pub count : ℕ
   pub first : ℕ
