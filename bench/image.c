@@ -1,66 +1,103 @@
-/* image.c: see image.h. */
+/* image.c: see image.h. The bytes as docs/IMAGE.md has them; no other file of the benchmark knows their order. */
 #include "image.h"
 
+#include <stddef.h>
 #include <string.h>
 
-enum { STATES_AT = 32, DUES_AT = 64, TASKS_AT = 192, SEMAPHORES_AT = 512, MUTEXES_AT = 592, QUEUES_AT = 640 };
+enum { QUEUES = 1 + 2 * PLAIN_OBJECTS };
 
-enum { TICK_AT = 1696, DEPTH_AT = 1700, RUNNING_AT = 1701 };
+/* Single bytes alone, so that there is no padding. */
+struct columns {
+    struct {
+        uint8_t used[PLAIN_TASKS], base[PLAIN_TASKS], work[PLAIN_TASKS], suspend[PLAIN_TASKS];
+        uint8_t state[PLAIN_TASKS], object[PLAIN_TASKS], marked[PLAIN_TASKS], outcome[PLAIN_TASKS];
+        uint8_t quantum[PLAIN_TASKS][2], left[PLAIN_TASKS][2];
+        uint8_t due[PLAIN_TASKS][4];
+    } task;
+    struct {
+        uint8_t used[PLAIN_OBJECTS];
+        uint8_t count[PLAIN_OBJECTS][4];
+    } semaphore;
+    struct {
+        uint8_t used[PLAIN_OBJECTS], holder[PLAIN_OBJECTS], nesting[PLAIN_OBJECTS];
+    } mutex;
+    uint8_t queue[QUEUES][PLAIN_TASKS];
+    uint8_t tick[4], depth, running;
+};
 
-/* Queue 0 is that of the able tasks. */
-static unsigned head_of(unsigned queue)
-{
-    return queue == 0 ? PLAIN_ABLE : PLAIN_SEMAPHORE + queue - 1;
-}
+_Static_assert(offsetof(struct columns, task.quantum) == 256, "quanta");
+_Static_assert(offsetof(struct columns, task.due) == 384, "due marks");
+_Static_assert(offsetof(struct columns, semaphore) == 512, "semaphores");
+_Static_assert(offsetof(struct columns, mutex) == 592, "mutexes");
+_Static_assert(offsetof(struct columns, queue) == 640, "queues");
+_Static_assert(offsetof(struct columns, tick) == 1696, "tick");
+_Static_assert(sizeof(struct columns) == NTK_IMAGE_SIZE, "size");
 
-static void put16(uint8_t *at, uint32_t n)
+static void put16(uint8_t at[2], uint32_t n)
 {
     at[0] = (uint8_t)n;
     at[1] = (uint8_t)(n >> 8);
 }
 
-static void put32(uint8_t *at, uint32_t n)
+static void put32(uint8_t at[4], uint32_t n)
 {
     put16(at, n & 0xFFFF);
     put16(at + 2, n >> 16);
 }
 
+static void put_task(struct columns *to, const struct plain *k, unsigned i)
+{
+    const struct plain_task *t = &k->task[i];
+
+    to->task.used[i] = t->used;
+    to->task.base[i] = t->base;
+    to->task.work[i] = k->work[i];
+    to->task.suspend[i] = t->suspended;
+    to->task.state[i] = t->state;
+    to->task.object[i] = t->object;
+    to->task.marked[i] = k->marked >> i & 1;
+    to->task.outcome[i] = t->outcome;
+    put16(to->task.quantum[i], t->quantum);
+    put16(to->task.left[i], t->left);
+    put32(to->task.due[i], t->mark);
+}
+
+static void put_objects(struct columns *to, const struct plain *k, unsigned i)
+{
+    const struct plain_mutex *m = &k->mutex[i];
+
+    to->semaphore.used[i] = (uint8_t)k->semaphore[i].used;
+    put32(to->semaphore.count[i], k->semaphore[i].count);
+    to->mutex.used[i] = m->used;
+    to->mutex.holder[i] = m->used && m->holder != PLAIN_NONE ? m->holder + 1 : 0;
+    to->mutex.nesting[i] = m->nesting;
+}
+
+/* Queue 0 is that of the able tasks. */
+static void put_queue(struct columns *to, const struct plain *k, unsigned queue)
+{
+    unsigned head = queue == 0 ? PLAIN_ABLE : PLAIN_SEMAPHORE + queue - 1;
+    uint8_t *slot = to->queue[queue];
+    unsigned i;
+
+    for (i = k->next[head]; i != head; i = k->next[i])
+        *slot++ = (uint8_t)(i + 1);
+}
+
 void image_of(const struct plain *k, uint8_t image[NTK_IMAGE_SIZE])
 {
-    unsigned i, q;
+    struct columns to;
+    unsigned i;
 
-    memset(image, 0, NTK_IMAGE_SIZE);
-    memcpy(image, k->work, PLAIN_TASKS);
-    for (i = 0; i < PLAIN_TASKS; i++) {
-        const struct plain_task *t = &k->task[i];
-        uint8_t *at = image + TASKS_AT + 10 * i;
-        at[0] = t->used;
-        at[1] = t->base;
-        at[2] = t->suspended;
-        put16(at + 3, t->quantum);
-        put16(at + 5, t->left);
-        at[7] = t->object;
-        at[8] = k->marked >> i & 1;
-        at[9] = t->outcome;
-        image[STATES_AT + i] = t->state;
-        put32(image + DUES_AT + 4 * i, t->mark);
-    }
-    for (i = 0; i < PLAIN_OBJECTS; i++) {
-        const struct plain_mutex *m = &k->mutex[i];
-        uint8_t *at = image + SEMAPHORES_AT + 5 * i;
-        at[0] = k->semaphore[i].used;
-        put32(at + 1, k->semaphore[i].count);
-        at = image + MUTEXES_AT + 3 * i;
-        at[0] = m->used;
-        at[1] = m->used && m->holder != PLAIN_NONE ? m->holder + 1 : 0;
-        at[2] = m->nesting;
-    }
-    for (q = 0; q <= 2 * PLAIN_OBJECTS; q++) {
-        uint8_t *at = image + QUEUES_AT + 32 * q;
-        for (i = k->next[head_of(q)]; i != head_of(q); i = k->next[i])
-            *at++ = (uint8_t)(i + 1);
-    }
-    put32(image + TICK_AT, k->tick);
-    image[DEPTH_AT] = k->depth;
-    image[RUNNING_AT] = k->running == PLAIN_NONE ? 0 : k->running + 1;
+    memset(&to, 0, sizeof to);
+    for (i = 0; i < PLAIN_TASKS; i++)
+        put_task(&to, k, i);
+    for (i = 0; i < PLAIN_OBJECTS; i++)
+        put_objects(&to, k, i);
+    for (i = 0; i < QUEUES; i++)
+        put_queue(&to, k, i);
+    put32(to.tick, k->tick);
+    to.depth = k->depth;
+    to.running = k->running == PLAIN_NONE ? 0 : k->running + 1;
+    memcpy(image, &to, sizeof to);
 }

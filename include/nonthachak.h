@@ -1,7 +1,8 @@
 /* nonthachak.h: the kernel's bookkeeping, for the C port.
  *
  * The port owns a block of NTK_IMAGE_SIZE bytes, the image, zeroed at start-up, and calls ntk_step with interrupts shut for each
- * service call and each tick. ntk_step changes the image in place and says how the call was answered and which task is to run.
+ * service call and each tick. ntk_step changes the image in place and says how the call was answered and which task is to run; ntk_read
+ * shows a field of it.
  * docs/PORT.md tells how to use it, docs/IMAGE.md what each byte means.
  */
 #ifndef NONTHACHAK_H
@@ -20,6 +21,13 @@ extern "C" {
 #define NTK_TASKS 32
 #define NTK_SEMAPHORES 16
 #define NTK_MUTEXES 16
+#define NTK_QUEUES 33
+
+/* Limits, each the greatest that is taken. */
+#define NTK_LAST_PRIORITY 62       /* base and working priority; 0 is the most urgent */
+#define NTK_MOST_NESTED 250        /* suspends of a task, nesting of a mutex, lock depth */
+#define NTK_MOST_QUANTUM 65535
+#define NTK_MOST_COUNT 4294967295u /* of a semaphore */
 
 /* Kinds of calls, with the numbers a, b, c that each looks at, and who may make it:
  * T a running task, I an interrupt (kind | NTK_INTERRUPT), S start-up code, with none running. */
@@ -85,14 +93,90 @@ struct ntk_outcome ntk_step(uint8_t kind, uint32_t a, uint32_t b, uint32_t c, ui
  * since. There it gives what ntk_step gives. On an image that breaks a standing rule it gives no sensible table. */
 struct ntk_outcome ntk_serve(uint8_t kind, uint32_t a, uint32_t b, uint32_t c, uint8_t *image, size_t length);
 
-/* What the last wait of a task came to, read from the image, which has NTK_IMAGE_SIZE bytes. Any number is taken: from NTK_TASKS on the
- * image is not read, and the answer is NTK_NO_SUCH_TASK. A task that is not in use has the outcome 0. */
-static inline enum ntk_wait ntk_wait_of(const uint8_t *image, unsigned task)
+/* Fields, for ntk_read: what each shows, and which numbers it has. The first digit says whose it is, as with the kinds of calls.
+ * Where "none" may stand (a holder, the running task, a slot), a task is its number plus 1, and 0 is none. */
+enum ntk_field {
+    NTK_FIELD_TASK_IN_USE = 0x00,      /* 1 in use, 0 free; free, all its fields are 0     task 0..31      */
+    NTK_FIELD_TASK_BASE = 0x01,        /* base priority                                    task 0..31      */
+    NTK_FIELD_TASK_WORK = 0x02,        /* working priority                                 task 0..31      */
+    NTK_FIELD_TASK_SUSPEND = 0x03,     /* suspend count                                    task 0..31      */
+    NTK_FIELD_TASK_QUANTUM = 0x04,     /* quantum                                          task 0..31      */
+    NTK_FIELD_TASK_LEFT = 0x05,        /* what is left of the quantum                      task 0..31      */
+    NTK_FIELD_TASK_STATE = 0x06,       /* enum ntk_state                                   task 0..31      */
+    NTK_FIELD_TASK_OBJECT = 0x07,      /* the object waited for; 0 where it waits for none task 0..31      */
+    NTK_FIELD_TASK_MARKED = 0x08,      /* 1 if it has a due mark, else 0                   task 0..31      */
+    NTK_FIELD_TASK_DUE = 0x09,         /* its due mark; 0 where it has none                task 0..31      */
+    NTK_FIELD_TASK_OUTCOME = 0x0A,     /* enum ntk_wait                                    task 0..31      */
+    NTK_FIELD_SEMAPHORE_IN_USE = 0x10, /* 1 in use, 0 free                                 semaphore 0..15 */
+    NTK_FIELD_SEMAPHORE_COUNT = 0x11,  /* count                                            semaphore 0..15 */
+    NTK_FIELD_MUTEX_IN_USE = 0x20,     /* 1 in use, 0 free                                 mutex 0..15     */
+    NTK_FIELD_MUTEX_HOLDER = 0x21,     /* holder plus 1; 0 for none                        mutex 0..15     */
+    NTK_FIELD_MUTEX_NESTING = 0x22,    /* how many times over it is held                   mutex 0..15     */
+    NTK_FIELD_QUEUE_SLOT = 0xE0,       /* task plus 1; 0 for none                          NTK_SLOT(q, j)  */
+    NTK_FIELD_TICK = 0xF0,             /* tick counter                                     0               */
+    NTK_FIELD_DEPTH = 0xF1,            /* lock depth                                       0               */
+    NTK_FIELD_RUNNING = 0xF2           /* running task plus 1; 0 for none                  0               */
+};
+
+/* The states of a task. */
+enum ntk_state { NTK_PLAIN = 0, NTK_DELAYED = 1, NTK_WAITS_SEMAPHORE = 2, NTK_WAITS_MUTEX = 3 };
+
+/* Queues: the able tasks, and the waiters of each semaphore and of each mutex, the most urgent first. */
+#define NTK_ABLE_QUEUE 0
+#define NTK_SEMAPHORE_QUEUE(s) (1 + (s))
+#define NTK_MUTEX_QUEUE(m) (17 + (m))
+
+/* The number of slot j, 0..31, of queue q, 0..32, where slot 0 is the front. */
+#define NTK_SLOT(q, j) (NTK_TASKS * (q) + (j))
+
+/* What no field shows: a field has 32 bits. */
+#define NTK_NO_FIELD UINT64_MAX
+
+/* What a field shows in the image of `length` bytes at `image`. Any arguments are taken: where the field or the number is unknown, or the
+ * length wrong, it is NTK_NO_FIELD. The image is not tested, and not changed; call it with interrupts shut, or on a copy. */
+uint64_t ntk_read(uint32_t field, uint32_t number, const uint8_t *image, size_t length);
+
+/* The same of an image of NTK_IMAGE_SIZE bytes, for what a port asks most. */
+
+#ifdef __cplusplus
+#define NTK_AS(type, x) static_cast<type>(x)
+#else
+#define NTK_AS(type, x) ((type)(x))
+#endif
+
+/* What the last wait of a task came to. A task that is not in use has the outcome 0; a number that is no task's NTK_NO_SUCH_TASK. */
+static inline enum ntk_wait ntk_wait_of(const uint8_t *image, uint32_t task)
 {
-    if (task >= NTK_TASKS)
-        return NTK_NO_SUCH_TASK;
-    return (enum ntk_wait)image[192 + 10 * task + 9];
+    uint64_t wait = ntk_read(NTK_FIELD_TASK_OUTCOME, task, image, NTK_IMAGE_SIZE);
+    return wait == NTK_NO_FIELD ? NTK_NO_SUCH_TASK : NTK_AS(enum ntk_wait, wait);
 }
+
+/* The working priority of a task; NTK_NO_FIELD for a number that is no task's. */
+static inline uint64_t ntk_priority_of(const uint8_t *image, uint32_t task)
+{
+    return ntk_read(NTK_FIELD_TASK_WORK, task, image, NTK_IMAGE_SIZE);
+}
+
+/* The task in slot j of queue q, plus 1; 0 where the slot is free, and NTK_NO_FIELD where there is no such slot. */
+static inline uint64_t ntk_slot_of(const uint8_t *image, uint32_t q, uint32_t j)
+{
+    if (q >= NTK_QUEUES || j >= NTK_TASKS)
+        return NTK_NO_FIELD;
+    return ntk_read(NTK_FIELD_QUEUE_SLOT, NTK_SLOT(q, j), image, NTK_IMAGE_SIZE);
+}
+
+/* The running task, plus 1; 0 for none. */
+static inline uint32_t ntk_running(const uint8_t *image)
+{
+    return NTK_AS(uint32_t, ntk_read(NTK_FIELD_RUNNING, 0, image, NTK_IMAGE_SIZE));
+}
+
+static inline uint32_t ntk_tick_count(const uint8_t *image)
+{
+    return NTK_AS(uint32_t, ntk_read(NTK_FIELD_TICK, 0, image, NTK_IMAGE_SIZE));
+}
+
+#undef NTK_AS
 
 #ifdef __cplusplus
 }

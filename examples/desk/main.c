@@ -52,7 +52,8 @@ static void two_mutexes(void)
     call("create the housekeeper, base 25", NTK_TASK_CREATE, KEEPER, 25, 0);
     call("decoder posts the frames", NTK_MUTEX_POST, FRAMES, 0, 0);
     call("output sleeps 2 ticks", NTK_DELAY, 2, 0, 0);
-    printf("  the decoder still works at the reader's 20: %u\n", table[DECODER]);
+    printf("  the decoder still works at the reader's 20: %u\n", (unsigned)ntk_priority_of(table, DECODER));
+    printf("  the holder of the clock, plus 1: %u\n", (unsigned)ntk_read(NTK_FIELD_MUTEX_HOLDER, CLOCK, table, sizeof table));
     call("decoder posts the clock", NTK_MUTEX_POST, CLOCK, 0, 0);
     call("tick", NTK_TICK | NTK_INTERRUPT, 0, 0, 0);
     call("tick", NTK_TICK | NTK_INTERRUPT, 0, 0, 0);

@@ -10,10 +10,12 @@
 //! S is a number or `now`. At the first difference the program tells it and exits with 1.
 
 mod damage;
+mod image;
 mod kernel;
 mod random;
 
-use kernel::{body, meaning, read_call, write_call, Call, Kernel, Outcome, State, IMAGE, KINDS, RULES};
+use image::{meaning, COLUMNS, IMAGE};
+use kernel::{body, read_call, write_call, Call, Kernel, Outcome, State, KINDS, RULES};
 use random::{Caller, Random, BORDERS};
 use std::collections::BTreeMap;
 use std::time::Instant;
@@ -370,6 +372,7 @@ struct Judged {
     unsound: usize,
     alone: [usize; RULES.len()],
     with_others: [usize; RULES.len()],
+    columns: [usize; COLUMNS.len()],
 }
 
 impl Judged {
@@ -380,10 +383,20 @@ impl Judged {
         }
     }
 
+    fn note_columns(&mut self, image: &[u8], damaged: &[u8]) {
+        for (count, column) in self.columns.iter_mut().zip(COLUMNS) {
+            *count += usize::from(column.differs(image, damaged));
+        }
+    }
+
     fn tell(&self) {
         println!("  {} unsound, {} sound; rules broken alone, with others:", self.unsound, self.sound);
         for (rule, name) in RULES.iter().enumerate() {
             println!("  {:8} {:8}  {name}", self.alone[rule], self.with_others[rule]);
+        }
+        println!("  damaged columns:");
+        for (column, count) in COLUMNS.iter().zip(self.columns) {
+            println!("  {count:8}  {}", format!("{} {}", column.of, column.name).trim_start());
         }
     }
 }
@@ -420,6 +433,7 @@ fn damaged_images(count: usize, seed: u64, all_bits: usize, each: usize) {
         for i in 0..damages {
             let damaged = if every_bit { one_bit(&image, i) } else { damage::damaged(&mut random, &kernel, &other) };
             let call = caller.next(&mut random, &kernel);
+            judged.note_columns(&image, &damaged);
             if let Err((difference, broken)) = on_damaged(&mut lent, &damaged, call, &mut judged) {
                 println!("DIFFERENCE at table {tables} (seed {own}), damage {i}");
                 tell_damage(&image, &damaged, &broken);

@@ -1,13 +1,15 @@
 //! Damage to a table: of its bytes, and of its fields in such a way that often one rule alone breaks or
 //! another sound table comes out.
 
-use crate::kernel::{Kernel, Place, State, Task, IMAGE, OBJECTS, TASKS};
+use crate::image::{COLUMNS, IMAGE};
+use crate::kernel::{Kernel, Place, State, Task, OBJECTS, TASKS};
 use crate::random::{arrange, settle, Random};
 
 /// A damaged copy of the image; `other` is a second image to take bytes from.
 pub fn damaged(random: &mut Random, kernel: &Kernel, other: &[u8]) -> Vec<u8> {
     match random.below(10) {
-        0 | 1 => damaged_bytes(random, kernel.encode(), other),
+        0 => damaged_bytes(random, kernel.encode(), other),
+        1 => damaged_columns(random, kernel.encode()),
         2 => stale_chain(random, kernel.clone()).encode(),
         _ => damaged_fields(random, kernel.clone()).encode(),
     }
@@ -16,16 +18,33 @@ pub fn damaged(random: &mut Random, kernel: &Kernel, other: &[u8]) -> Vec<u8> {
 fn damaged_bytes(random: &mut Random, mut image: Vec<u8>, other: &[u8]) -> Vec<u8> {
     for _ in 0..random.between(1, 3) {
         let at = random.below(IMAGE);
-        match random.below(5) {
+        match random.below(6) {
             0 => image[at] ^= 1 << random.below(8),
             1 => image[at] = random.pick(&[0, 1, 2, 3, 16, 31, 32, 33, 62, 63, 250, 251, 255]),
             2 => image.swap(at, random.below(IMAGE)),
             3 => image[at] = image[at].wrapping_add(1),
+            4 => {
+                let to = (at + random.between(2, 32)).min(IMAGE);
+                image[at..to].rotate_right(1); // in a queue often a gap and nobody lost
+            }
             _ => {
                 let to = (at + random.between(1, 64)).min(IMAGE);
                 image[at..to].copy_from_slice(&other[at..to]);
             }
         }
+    }
+    image
+}
+
+/// Numbers of some columns, each column as likely as any other, however few its bytes.
+fn damaged_columns(random: &mut Random, mut image: Vec<u8>) -> Vec<u8> {
+    for _ in 0..random.between(1, 2) {
+        let column = random.pick(COLUMNS);
+        let i = random.below(column.count);
+        let n = column.get(&image, i);
+        let other = column.get(&image, random.below(column.count));
+        let border = random.border();
+        column.put(&mut image, i, random.pick(&[0, 1, n.wrapping_add(1), n.wrapping_sub(1), other, border]));
     }
     image
 }

@@ -1,4 +1,5 @@
 //! Stands in for the port's library, by the model itself: only for trying `compare` (see try-stubs).
+mod image;
 mod kernel;
 
 use kernel::{Call, Kernel};

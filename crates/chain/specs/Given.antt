@@ -16,8 +16,8 @@ use Rattle.rules.specs.Sound.{Shaped}
 use Rattle.rules.specs.Tested.{ends}
 use Rattle.rules.specs.Afresh.{here, fresh-is}
 use Rattle.laws.specs.chains.Graph.{work-base, work-fresh}
-use Rattle.table.specs.Parts.{tabulate}
-use Rattle.table.specs.PartLaws.{tabulate-length, tabulate-at, tabulate-same}
+use Rattle.columns.specs.Rows.{tabulate}
+use Rattle.columns.specs.Rows.{tabulate-long, tabulate-at, tabulate-same}
 use Rattle.chain.specs.Carry.{lower, notGiven, HadTurns, settled-byte}
 
 -- ---- nothing is given yet
@@ -61,14 +61,14 @@ pub record Given (t : Table) (l : List ℕ) : Type 0 where
 pub settled-given : (t : Table) (l : List ℕ) → Shaped t → ((i : ℕ) → i < taskCount → baseOf t i ≤ notGiven) → HadTurns taskCount (next t) (baseOf t) taskCount l → l ≡ givenToAll t
 unfolding freshIn givenTo givenToAll
 settled-given t l h small s =
-    ext-getD 0 l (givenToAll t) (s .size ∙ sym (tabulate-length taskCount (givenTo t))) λ i p.
+    ext-getD 0 l (givenToAll t) (s .size ∙ sym (tabulate-long taskCount (givenTo t))) λ i p.
     let m : i < taskCount = omega (arith, s .size) in
     settled-byte (ends t h) s i m (small i m) ∙ sym (tabulate-at taskCount (givenTo t) i 0 m)
 
 module _ {t : Table} {l : List ℕ} (g : Given t l) where
   pub given-size : length l ≡ taskCount
   unfolding givenToAll
-  given-size = ap length (g .all) ∙ tabulate-length taskCount (givenTo t)
+  given-size = ap length (g .all) ∙ tabulate-long taskCount (givenTo t)
 
   given-at : (i : ℕ) → i < taskCount → getD l i 0 ≡ givenTo t i
   unfolding givenToAll

@@ -1,13 +1,14 @@
 // The chain of holders: who waits for whom, and the working priorities of all tasks worked out together.
 ghost use mathlib.Core.Path.{_≡_};
 ghost use Prim.Native.Nat.{_+_, _≤_, _<_};
-ghost use Rattle.rules.specs.Table.{taskOf, holderOf};
+ghost use Rattle.rules.specs.Table.{holderOf};
 ghost use Rattle.rules.specs.Move.{next, baseOf, freshIn};
 ghost use Rattle.table.specs.Image.{Image, view};
 ghost use Rattle.chain.specs.Carry.{HadTurns};
 ghost use Rattle.chain.specs.Given.{NoneGiven, givenToAll, Given};
 ghost use Rattle.chain.specs.States.{statesFrom};
-use table::cells;
+use table::mutexes;
+use table::tasks;
 
 pub mod walk;
 
@@ -16,11 +17,14 @@ pub fn holder_of(s: &[u8], m: usize) -> usize
     requires { ⌜ Image (now s) ⌝ }
     ensures { λ r. ⌜ r ≡ holderOf (view (now (s .entry))) m ⌝ }
 {
-    let x = cells::mutex_at(s, m);
-    if x.holder == 0 {
+    if 16 <= m {
         return 32;
     }
-    x.holder as usize - 1
+    let v = mutexes::get_holder(s, m);
+    if v == 0 {
+        return 32;
+    }
+    v as usize - 1
 }
 
 // The holder of the mutex for which task j waits, or no task.
@@ -28,19 +32,14 @@ pub fn next_of(s: &[u8], j: usize) -> usize
     requires { ⌜ Image (now s) ⌝ }
     ensures { λ r. ⌜ r ≡ next (view (now (s .entry))) j ⌝ }
 {
-    let k = cells::task_at(s, j);
-    if k.state == 3 {
-        return holder_of(s, k.object as usize);
+    if 32 <= j {
+        return 32;
+    }
+    if tasks::get_state(s, j) == 3 {
+        let m = tasks::get_object(s, j);
+        return holder_of(s, m as usize);
     }
     32
-}
-
-fn base_of(s: &[u8], j: usize) -> u8
-    requires { ⌜ (j < 32) × Image (now s) ⌝ }
-    ensures { λ r. ⌜ r ≡ baseOf (view (now (s .entry))) j ⌝ }
-{
-    let k = cells::get_task(s, j);
-    k.base
 }
 
 // The base priority of task i goes along its chain, to each task whose own is greater and that was given a greater one. Where one has
@@ -49,14 +48,14 @@ fn carry(s: &[u8], given: &mut [u8], i: usize)
     requires { ⌜ (i < 32) × Image (now s) × HadTurns 32 (next (view (now s))) (baseOf (view (now s))) i (now given) ⌝ }
     ensures { λ _. ⌜ HadTurns 32 (next (view (now (s .entry)))) (baseOf (view (now (s .entry)))) (i + 1) (now (given .exit)) ⌝ }
 {
-    let base = base_of(s, i);
+    let base = tasks::get_base(s, i);
     let mut j = next_of(s, i);
     while j < 32 {
         let v = given[j];
         if v <= base {
             return;
         }
-        let own = base_of(s, j);
+        let own = tasks::get_base(s, j);
         if own <= base {
             return;
         }
@@ -65,26 +64,18 @@ fn carry(s: &[u8], given: &mut [u8], i: usize)
     }
 }
 
-// The state of task i.
-fn state_of(s: &[u8], i: usize) -> u8
-    requires { ⌜ (i < 32) × Image (now s) ⌝ }
-    ensures { λ r. ⌜ r ≡ taskOf (view (now (s .entry))) i .state ⌝ }
-{
-    let k = cells::get_task(s, i);
-    k.state
-}
-
 // The states of the eight tasks from `a` on, one bit over another. No task has a branch of its own, so that the compiler takes all at once.
 fn states_of(s: &[u8], a: usize) -> u8
     requires { ⌜ (a + 8 ≤ 32) × Image (now s) ⌝ }
     ensures { λ r. ⌜ r ≡ statesFrom 8 a (view (now (s .entry))) ⌝ }
 {
-    state_of(s, a)
-        | (state_of(s, a + 1)
-            | (state_of(s, a + 2)
-                | (state_of(s, a + 3)
-                    | (state_of(s, a + 4)
-                        | (state_of(s, a + 5) | (state_of(s, a + 6) | state_of(s, a + 7)))))))
+    tasks::get_state(s, a)
+        | (tasks::get_state(s, a + 1)
+            | (tasks::get_state(s, a + 2)
+                | (tasks::get_state(s, a + 3)
+                    | (tasks::get_state(s, a + 4)
+                        | (tasks::get_state(s, a + 5)
+                            | (tasks::get_state(s, a + 6) | tasks::get_state(s, a + 7)))))))
 }
 
 // The eight tasks from `a` on have their turns.
@@ -121,7 +112,7 @@ pub fn fresh_of(s: &[u8], given: &[u8], i: usize) -> u8
     requires { ⌜ (i < 32) × Image (now s) × Given (view (now s)) (now given) ⌝ }
     ensures { λ r. ⌜ r ≡ freshIn (view (now (s .entry))) i ⌝ }
 {
-    let own = base_of(s, i);
+    let own = tasks::get_base(s, i);
     let v = given[i];
     if v < own {
         return v;

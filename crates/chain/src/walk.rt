@@ -5,8 +5,8 @@ ghost use Rattle.rules.specs.Walk.{walkOn};
 ghost use Rattle.rules.specs.Move.{next, freshIn, putWork, walk};
 ghost use Rattle.table.specs.Image.{Image, view};
 ghost use Rattle.chain.specs.Given.{Given};
-use table::cells;
 use table::moves;
+use table::tasks;
 
 // Where a walk stands, and how many tasks at most it has before it.
 struct Stand {
@@ -26,7 +26,7 @@ fn pass_right(s: &[u8], given: &[u8], i: usize, left: usize) -> Stand
             return Stand { task: at, left: n };
         }
         let p = crate::fresh_of(s, given, at);
-        if cells::get_work(s, at) != p {
+        if tasks::get_work(s, at) != p {
             return Stand { task: at, left: n };
         }
         at = crate::next_of(s, at);

@@ -8,6 +8,9 @@ pub mod Tally
 pub mod Ending
 pub mod Families
 pub mod Release
+pub mod Caller
+pub mod Semaphore
+pub mod Mutex
 pub mod Calls
 pub mod Sounds
 pub mod Always

@@ -10,7 +10,7 @@ use Rattle.rules.specs.Table.{Table}
 use Rattle.rules.specs.Step.{serve}
 use Rattle.rules.specs.Tape.{Bytes, line}
 use Rattle.table.specs.Image.{Image, view}
-use Rattle.table.specs.Lossless.{lossless}
+use Rattle.table.specs.Written.{lossless}
 use Rattle.tape.specs.Line.{pasted}
 use Rattle.tape.specs.Next.{nextIn}
 use Rattle.tape.specs.Play.{Played, plays}

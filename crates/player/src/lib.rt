@@ -31,7 +31,7 @@ fn play_one(image: &mut [u8], tape: &[u8], out: &mut [u8], end: usize) -> Turn
     match next {
         tape::Next::Whole(c, interrupt, n) => {
             let answer = calls::serve(image, c, interrupt);
-            let runs = table::cells::get_running(image);
+            let runs = table::numbers::get_running(image);
             let to = tape::write_line(out, end, answer, runs);
             Turn::Went(n, to)
         }

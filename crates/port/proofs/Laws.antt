@@ -9,9 +9,9 @@ use Rattle.rules.specs.Step.{Outcome, answer, effect, serve, unsound, changes}
 use Rattle.rules.specs.declared.Call.{Call}
 use Rattle.rules.specs.declared.Reading.{Reading}
 use Rattle.rules.specs.declared.Reading.the-variants.{Unknown}
-use Rattle.table.specs.Image.{Image, view}
+use Rattle.table.specs.Image.{Image, view, imageOf}
 use Rattle.rules.specs.Tape.{Bytes}
-use Rattle.table.specs.Written.{imageOf, view-image}
+use Rattle.table.specs.Written.{view-image}
 use Rattle.service.specs.Served.{Served}
 use Rattle.port.specs.Step.{plainly, bytesAfter, Gives}
 
@@ -19,6 +19,10 @@ use Rattle.port.specs.Step.{plainly, bytesAfter, Gives}
 
 pub gives-by : {o p : Outcome} {l m : List ℕ} {x v : ℕ} → o ≡ p → Gives p l x v m → Gives o l x v m
 gives-by {l = l} {m} {x} {v} e g = subst (λ (q : Outcome). Gives q l x v m) (sym e) g
+
+-- An answer as it is handed on.
+pub gives-answered : {o : Outcome} {l m : List ℕ} {x v y w : ℕ} → Gives o l x v m → y ≡ x → w ≡ v → Gives o l y w m
+gives-answered g e f = record { answer = e ∙ g .answer; runs = f ∙ g .runs; bytes = g .bytes }
 
 pub plain-by : {r q : Reading} (t : Table) → r ≡ q → plainly r t ≡ plainly q t
 plain-by t e = ap (λ (z : Reading). plainly z t) e

@@ -22,9 +22,9 @@ use Rattle.laws.specs.order.Order.{Made, run, OrderKept}
 use Rattle.laws.specs.keeps.Sounds.{step-serve, serve-small, fresh-sound}
 use Rattle.laws.specs.keeps.Always.{always-from}
 use Rattle.laws.specs.order.Demand.{demand-sound}
-use Rattle.table.specs.Image.{Image, imageSize, view}
+use Rattle.table.specs.Image.{Image, imageSize, view, imageOf}
 use Rattle.table.specs.Shape.{fresh-view}
-use Rattle.table.specs.Written.{imageOf, sound-fits, image-length, image-view, view-image, one-image}
+use Rattle.table.specs.Written.{sound-fits, image-length, image-view, view-image, one-image}
 use Rattle.port.specs.Step.{plainly, outcomeOf, serveOf, bytesAfter, Gives}
 use Rattle.port.specs.Ways.{rules-sound, step-wrong, step-right, step-unsound, step-sound, serve-right}
 use Rattle.laws.specs.numbers.Tape.{BoundedIn}

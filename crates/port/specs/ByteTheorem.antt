@@ -23,8 +23,7 @@ use Rattle.rules.specs.declared.Call.{Call}
 use Rattle.rules.specs.declared.Reading.the-variants.{Says, Unknown}
 use Rattle.laws.specs.order.Order.{run, OrderKept}
 use Rattle.laws.specs.order.Demand.{Demand3}
-use Rattle.table.specs.Image.{imageSize, view}
-use Rattle.table.specs.Written.{imageOf}
+use Rattle.table.specs.Image.{imageSize, view, imageOf}
 use Rattle.port.specs.Step.{outcomeOf, serveOf, Stepped, ServedPlainly}
 use Rattle.port.specs.Reads.{PortCall, readingOf, madeByAll}
 

@@ -12,8 +12,7 @@ use Rattle.rules.specs.Kinds.{reading}
 use Rattle.rules.specs.Port.{portStep}
 use Rattle.rules.specs.declared.Reading.{Reading}
 use Rattle.rules.specs.declared.Reading.the-variants.{Says, Unknown}
-use Rattle.table.specs.Image.{imageSize, view}
-use Rattle.table.specs.Written.{imageOf}
+use Rattle.table.specs.Image.{imageSize, view, imageOf}
 
 -- Where the bytes are an image's by their length, what the rules say of the table that they show; else 15.
 unfoldable pub sized : (Table → Outcome) → List ℕ → Outcome

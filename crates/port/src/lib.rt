@@ -3,10 +3,11 @@ ghost use mathlib.Core.Path.{_≡_};
 ghost use mathlib.Core.Bool.{cond};
 ghost use mathlib.Core.List.{[], _∷_};
 ghost use Rattle.rules.specs.Sizes.{byInterrupt, beyondRange, notSound};
-ghost use Rattle.rules.specs.Step.{serve};
 ghost use Rattle.rules.specs.Kinds.{reading};
 ghost use Rattle.table.specs.Image.{Image, view};
 ghost use Rattle.port.specs.Step.{plainly, Gives, Stepped, ServedPlainly};
+
+pub mod read;
 
 // How a call was answered, and the task to run: its number plus 1, 0 for none.
 #[repr(C)]
@@ -31,48 +32,36 @@ fn not_sound() -> NtkOutcome
     outcome(15, 0)
 }
 
-// A call of the list.
-fn serve_call(call: rules::Call, interrupt: bool, image: &mut [u8]) -> NtkOutcome
-    requires { ⌜ Image (now image) ⌝ }
-    ensures { λ r. ⌜ Gives (serve call interrupt (view (now (image .entry)))) (now (image .entry)) (r .answer) (r .runs) (now (image .exit)) ⌝ }
+// The answer of a kind that the list lacks.
+fn unknown_kind(interrupt: bool) -> u8
+    ensures { λ r. ⌜ r ≡ cond interrupt byInterrupt beyondRange ⌝ }
 {
-    let n = calls::serve(image, call, interrupt);
-    let v = table::cells::get_running(image);
-    outcome(n, v)
-}
-
-// A kind that the list lacks.
-fn refuse_kind(interrupt: bool, image: &[u8]) -> NtkOutcome
-    requires { ⌜ Image (now image) ⌝ }
-    ensures { λ r. ⌜ (r .answer ≡ cond interrupt byInterrupt beyondRange) × (r .runs ≡ view (now (image .entry)) .running) ⌝ }
-{
-    let v = table::cells::get_running(image);
-    if interrupt {
-        return outcome(5, v);
+    if !interrupt {
+        return 1;
     }
-    outcome(1, v)
+    5
 }
 
-// A call with up to six numbers, on an image whose table is taken to be sound. The numbers are not one array, which the compiler would
-// pass through memory.
-fn serve_plainly(
-    kind: u8,
-    a: u32,
-    b: u32,
-    c: u32,
-    d: u32,
-    e: u32,
-    f: u32,
-    image: &mut [u8],
-) -> NtkOutcome
+// A call with up to six numbers, on an image whose table is taken to be sound. The numbers are not one array, and the task to run is left in
+// the image: either would go through memory.
+fn serve_plainly(kind: u8, a: u32, b: u32, c: u32, d: u32, e: u32, f: u32, image: &mut [u8]) -> u8
     requires { ⌜ Image (now image) ⌝ }
-    ensures { λ r. ⌜ Gives (plainly (reading kind (a ∷ b ∷ c ∷ d ∷ e ∷ f ∷ [])) (view (now (image .entry)))) (now (image .entry)) (r .answer) (r .runs) (now (image .exit)) ⌝ }
+    ensures { λ r. ⌜ Gives (plainly (reading kind (a ∷ b ∷ c ∷ d ∷ e ∷ f ∷ [])) (view (now (image .entry)))) (now (image .entry)) r (view (now (image .exit)) .running) (now (image .exit)) ⌝ }
 {
     let reading = kinds::reading_of(kind, [a, b, c, d, e, f]);
     match reading {
-        rules::Reading::Says(call, interrupt) => serve_call(call, interrupt, image),
-        rules::Reading::Unknown(interrupt) => refuse_kind(interrupt, image),
+        rules::Reading::Says(call, interrupt) => calls::serve(image, call, interrupt),
+        rules::Reading::Unknown(interrupt) => unknown_kind(interrupt),
     }
+}
+
+// The answer, and the task that runs now.
+fn answered(answer: u8, image: &[u8]) -> NtkOutcome
+    requires { ⌜ Image (now image) ⌝ }
+    ensures { λ r. ⌜ (r .answer ≡ answer) × (r .runs ≡ view (now (image .entry)) .running) ⌝ }
+{
+    let v = table::numbers::get_running(image);
+    outcome(answer, v)
 }
 
 // A call on any bytes.
@@ -80,13 +69,14 @@ fn serve_plainly(
 pub extern "C" fn ntk_step(kind: u8, a: u32, b: u32, c: u32, image: &mut [u8]) -> NtkOutcome
     ensures { λ r. ⌜ Stepped kind a b c (now (image .entry)) (r .answer) (r .runs) (now (image .exit)) ⌝ }
 {
-    if image.len() != table::cells::IMAGE_SIZE {
+    if image.len() != table::layout::IMAGE_SIZE {
         return not_sound();
     }
     if !sound::is_sound(image) {
         return not_sound();
     }
-    serve_plainly(kind, a, b, c, 0, 0, 0, image)
+    let n = serve_plainly(kind, a, b, c, 0, 0, 0, image);
+    answered(n, image)
 }
 
 // The same without the test of the table: for an image that this library alone has changed since it was zeroed.
@@ -94,8 +84,9 @@ pub extern "C" fn ntk_step(kind: u8, a: u32, b: u32, c: u32, image: &mut [u8]) -
 pub extern "C" fn ntk_serve(kind: u8, a: u32, b: u32, c: u32, image: &mut [u8]) -> NtkOutcome
     ensures { λ r. ⌜ ServedPlainly kind a b c (now (image .entry)) (r .answer) (r .runs) (now (image .exit)) ⌝ }
 {
-    if image.len() != table::cells::IMAGE_SIZE {
+    if image.len() != table::layout::IMAGE_SIZE {
         return not_sound();
     }
-    serve_plainly(kind, a, b, c, 0, 0, 0, image)
+    let n = serve_plainly(kind, a, b, c, 0, 0, 0, image);
+    answered(n, image)
 }

@@ -117,7 +117,7 @@ fn run_only(start: Output) -> Output {
 // P5: a task is created, delays for 3 ticks, and three ticks come. No tape of a sensible length reaches the counter that it starts at.
 fn wrapping_mark(output: Output) -> Output {
     let mut image = [0u8; 1702];
-    table::cells::set_tick(&mut image, 4294967294);
+    table::numbers::set_tick(&mut image, 4294967294);
     play_from(
         output.say(b"P5, a mark behind the wrap\n"),
         &mut image,

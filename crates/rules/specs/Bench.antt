@@ -17,8 +17,9 @@ use Rattle.rules.specs.Task.{createAnswer, create, suspendAnswer, suspen
 use Rattle.rules.specs.Time.{delayAnswer, delay}
 use Rattle.rules.specs.Lock.{lockAnswer, lock, unlockAnswer, unlock}
 use Rattle.rules.specs.Object.{objectCreateAnswer, blocked, waits, taken}
-use Rattle.rules.specs.Semaphore.{semaphoreCreate, semaphoreWaitAnswer, semaphoreWait, semaphorePostAnswer, semaphorePost}
-use Rattle.rules.specs.Mutex.{mutexCreate, mutexWaitAnswer, mutexWait, mutexPostAnswer, handed, released, mutexPost}
+use Rattle.rules.specs.Semaphore as semaphore
+use Rattle.rules.specs.Mutex.{handed, released}
+use Rattle.rules.specs.Mutex as mutex
 use Rattle.rules.specs.Tick.{turned, dueEnded, dueBelow, ticked}
 use Rattle.rules.specs.Step.{answerTo, changeBy, forInterrupts, answer, effect, serve, step}
 use Rattle.rules.specs.Kinds.{toldIn, widths, ofKind, reading, spelled}
@@ -142,7 +143,7 @@ pub record Bench : Type 0 where
   pub is-given : (taskOf (after suspended-waiter (SemaphorePost 0 ∷ [])) 1 .state ≡ plain) × (runs suspended-waiter (SemaphorePost 0 ∷ Resume 1 ∷ []) ≡ written 2 ∷ written 1 ∷ [])
 
 pub bench : Bench
-unfolding firstAt later push pull opened closed leads smallest fresh walkOn freshTable isAble placeOf works leave join stays put rotate holderOf next freshIn ended endedAll chosen peerBelow createAnswer create suspendAnswer suspend resumeAnswer resume delayAnswer delay lockAnswer lock unlockAnswer unlock objectCreateAnswer blocked waits taken semaphoreCreate semaphoreWaitAnswer semaphoreWait semaphorePostAnswer semaphorePost mutexCreate mutexWaitAnswer mutexWait mutexPostAnswer handed released mutexPost turned dueEnded dueBelow ticked answerTo changeBy forInterrupts answer effect serve toldIn widths ofKind reading spelled little sum numbers bodyLength callIn decimal runner line printedOf printed tape step count mayPrecede fits isOrdered each isShaped marksIn isTaskInRange isNoTask isNoSemaphore isNoMutex isSoundTask isSoundSemaphore isSoundMutex mayWait ofState eachOf isSoundWait isSoundObjects isSoundQueues isWorkedOut isSoundWithin isSoundRuns isSound after answers runs
+unfolding firstAt later push pull opened closed leads smallest fresh walkOn freshTable isAble placeOf works leave join stays put rotate holderOf next freshIn ended endedAll chosen peerBelow createAnswer create suspendAnswer suspend resumeAnswer resume delayAnswer delay lockAnswer lock unlockAnswer unlock objectCreateAnswer blocked waits taken semaphore.create semaphore.waitAnswer semaphore.wait semaphore.postAnswer semaphore.post mutex.create mutex.waitAnswer mutex.wait mutex.postAnswer handed released mutex.post turned dueEnded dueBelow ticked answerTo changeBy forInterrupts answer effect serve toldIn widths ofKind reading spelled little sum numbers bodyLength callIn decimal runner line printedOf printed tape step count mayPrecede fits isOrdered each isShaped marksIn isTaskInRange isNoTask isNoSemaphore isNoMutex isSoundTask isSoundSemaphore isSoundMutex mayWait ofState eachOf isSoundWait isSoundObjects isSoundQueues isWorkedOut isSoundWithin isSoundRuns isSound after answers runs
 bench =
     record {
       p1 = refl;

@@ -36,8 +36,8 @@ hasWaiter q t = not (eqb (firstIn q t) 0)
 -- ignores its limit."
 
 -- A wait that finds nothing to take: "a wait 8 before 7"; 14: "a wait is accepted and blocks".
-abbrev pub waitAnswer : ℕ → Table → ℕ
-waitAnswer block t = cond (eqb block 0) nothingToTake (cond (isLocked t) whileLocked blocks)
+abbrev pub blockAnswer : ℕ → Table → ℕ
+blockAnswer block t = cond (eqb block 0) nothingToTake (cond (isLocked t) whileLocked blocks)
 
 abbrev pub limited : ℕ → Table → Task → Task
 limited limit t k = cond (eqb limit 0) (withMark 0 0 k) (withMark 1 (markIn limit t) k)

@@ -10,9 +10,9 @@ use Rattle.rules.specs.Task.{createAnswer, create, deleteAnswer, delete,
 use Rattle.rules.specs.Time.{yieldAnswer, yield, delayAnswer, delay, delayResumeAnswer, delayResume}
 use Rattle.rules.specs.Lock.{lockAnswer, lock, unlockAnswer, unlock}
 use Rattle.rules.specs.Object.{objectCreateAnswer, objectDeleteAnswer, objectDelete, objectAbortAnswer, objectAbort}
-use Rattle.rules.specs.Semaphore.{semaphoreCreate, semaphoreWaitAnswer, semaphoreWait, semaphorePostAnswer, semaphorePost}
+use Rattle.rules.specs.Semaphore as semaphore
 use Rattle.rules.specs.Family.{semaphores, mutexes}
-use Rattle.rules.specs.Mutex.{mutexCreate, mutexWaitAnswer, mutexWait, mutexPostAnswer, mutexPost}
+use Rattle.rules.specs.Mutex as mutex
 use Rattle.rules.specs.Tick.{ticked}
 use Rattle.rules.specs.Sound.{isSound}
 use Rattle.rules.specs.Kinds.{toldOf, kindOf, numbersOf}
@@ -34,13 +34,13 @@ answerTo Unlock t = unlockAnswer t
 answerTo Tick t = done
 answerTo (SemaphoreCreate s n) t = objectCreateAnswer semaphores s t
 answerTo (SemaphoreDelete s force) t = objectDeleteAnswer semaphores s force t
-answerTo (SemaphoreWait s block limit) t = semaphoreWaitAnswer s block t
-answerTo (SemaphorePost s) t = semaphorePostAnswer s t
+answerTo (SemaphoreWait s block limit) t = semaphore.waitAnswer s block t
+answerTo (SemaphorePost s) t = semaphore.postAnswer s t
 answerTo (SemaphoreAbort s) t = objectAbortAnswer semaphores s t
 answerTo (MutexCreate m) t = objectCreateAnswer mutexes m t
 answerTo (MutexDelete m force) t = objectDeleteAnswer mutexes m force t
-answerTo (MutexWait m block limit) t = mutexWaitAnswer m block t
-answerTo (MutexPost m) t = mutexPostAnswer m t
+answerTo (MutexWait m block limit) t = mutex.waitAnswer m block t
+answerTo (MutexPost m) t = mutex.postAnswer m t
 answerTo (MutexAbort m) t = objectAbortAnswer mutexes m t
 
 -- What it changes.
@@ -56,15 +56,15 @@ changeBy (DelayResume i) t = delayResume i t
 changeBy Lock t = lock t
 changeBy Unlock t = unlock t
 changeBy Tick t = ticked t
-changeBy (SemaphoreCreate s n) t = semaphoreCreate s n t
+changeBy (SemaphoreCreate s n) t = semaphore.create s n t
 changeBy (SemaphoreDelete s force) t = objectDelete semaphores s t
-changeBy (SemaphoreWait s block limit) t = semaphoreWait s limit t
-changeBy (SemaphorePost s) t = semaphorePost s t
+changeBy (SemaphoreWait s block limit) t = semaphore.wait s limit t
+changeBy (SemaphorePost s) t = semaphore.post s t
 changeBy (SemaphoreAbort s) t = objectAbort semaphores s t
-changeBy (MutexCreate m) t = mutexCreate m t
+changeBy (MutexCreate m) t = mutex.create m t
 changeBy (MutexDelete m force) t = objectDelete mutexes m t
-changeBy (MutexWait m block limit) t = mutexWait m limit t
-changeBy (MutexPost m) t = mutexPost m t
+changeBy (MutexWait m block limit) t = mutex.wait m limit t
+changeBy (MutexPost m) t = mutex.post m t
 changeBy (MutexAbort m) t = objectAbort mutexes m t
 
 -- "made by an interrupt, and not a tick or a semaphore post": 5

@@ -66,6 +66,13 @@ withMark x d k = record { used = k .used; base = k .base; work = k .work; suspen
 abbrev pub withOutcome : ℕ → Task → Task
 withOutcome x k = record { used = k .used; base = k .base; work = k .work; suspend = k .suspend; quantum = k .quantum; left = k .left; state = k .state; object = k .object; marked = k .marked; due = k .due; outcome = x }
 
+abbrev pub withCount : ℕ → Semaphore → Semaphore
+withCount n x = record { used = x .used; count = n }
+
+-- the task written h, 0 for none, so many times over
+abbrev pub withHold : ℕ → ℕ → Mutex → Mutex
+withHold h n x = record { used = x .used; holder = h; nesting = n }
+
 abbrev pub counting : ℕ → Semaphore
 counting n = record { used = 1; count = n }
 
@@ -75,12 +82,6 @@ heldBy h n = record { used = 1; holder = h; nesting = n }
 
 abbrev pub withTasks : List Task → Table → Table
 withTasks x t = record { tasks = x; semaphores = t .semaphores; mutexes = t .mutexes; queues = t .queues; tick = t .tick; depth = t .depth; running = t .running }
-
-abbrev pub withSemaphores : List Semaphore → Table → Table
-withSemaphores x t = record { tasks = t .tasks; semaphores = x; mutexes = t .mutexes; queues = t .queues; tick = t .tick; depth = t .depth; running = t .running }
-
-abbrev pub withMutexes : List Mutex → Table → Table
-withMutexes x t = record { tasks = t .tasks; semaphores = t .semaphores; mutexes = x; queues = t .queues; tick = t .tick; depth = t .depth; running = t .running }
 
 abbrev pub withQueues : List (List ℕ) → Table → Table
 withQueues x t = record { tasks = t .tasks; semaphores = t .semaphores; mutexes = t .mutexes; queues = x; tick = t .tick; depth = t .depth; running = t .running }
@@ -100,10 +101,10 @@ abbrev pub withTask : ℕ → Task → Table → Table
 withTask i k t = withTasks (set (t .tasks) i k) t
 
 abbrev pub withSemaphore : ℕ → Semaphore → Table → Table
-withSemaphore s x t = withSemaphores (set (t .semaphores) s x) t
+withSemaphore s x t = record { tasks = t .tasks; semaphores = set (t .semaphores) s x; mutexes = t .mutexes; queues = t .queues; tick = t .tick; depth = t .depth; running = t .running }
 
 abbrev pub withMutex : ℕ → Mutex → Table → Table
-withMutex m x t = withMutexes (set (t .mutexes) m x) t
+withMutex m x t = record { tasks = t .tasks; semaphores = t .semaphores; mutexes = set (t .mutexes) m x; queues = t .queues; tick = t .tick; depth = t .depth; running = t .running }
 
 abbrev pub withQueue : ℕ → List ℕ → Table → Table
 withQueue q l t = withQueues (set (t .queues) q l) t

@@ -164,7 +164,7 @@ pub keyed : (t : Table) → Shaped t → length (works t) ≡ taskCount
 unfolding works
 keyed t s = length-map (t .tasks) (λ k. k .work) ∙ s .tasks
 
-queued : (t : Table) → Decides (isSoundQueues t) (SoundQueues t)
+pub queued : (t : Table) → Decides (isSoundQueues t) (SoundQueues t)
 unfolding isSoundQueues
 queued t =
     first (λ r. r .shaped) (shaped t) λ shaped.
@@ -200,7 +200,7 @@ settled t =
     last (λ s. s .depth) at-most λ depth.
     record { queued = queued; worked = worked; tasks = tasks; objects = objects; tick = tick; depth = depth }
 
-runs : (t : Table) → Decides (isSoundRuns t) (SoundRuns t)
+pub runs : (t : Table) → Decides (isSoundRuns t) (SoundRuns t)
 unfolding isSoundRuns
 runs t =
     first (λ r. r .range) at-most λ range.

@@ -1,28 +1,28 @@
 // Semaphores: create, delete, wait, post, abort.
-ghost use mathlib.Core.Path.{_≡_};
 ghost use mathlib.Core.Bool.{cond};
 ghost use Prim.Native.Nat.{_<_};
-ghost use lib.Dec.{ltb};
 ghost use Rattle.rules.specs.Move.{chosen};
-ghost use Rattle.rules.specs.Object.{waitAnswer, objectCreateAnswer, objectDeleteAnswer, objectDelete, objectAbortAnswer, objectAbort};
-ghost use Rattle.rules.specs.Semaphore.{semaphoreCreate, semaphoreWaitAnswer, semaphoreWait, semaphorePostAnswer, semaphorePost};
+ghost use Rattle.rules.specs.Object.{blockAnswer, objectCreateAnswer, objectDeleteAnswer, objectDelete, objectAbortAnswer, objectAbort};
+ghost use Rattle.rules.specs.Semaphore.{create, waitAnswer, wait, postAnswer, post};
 ghost use Rattle.rules.specs.Family.{semaphores};
 ghost use Rattle.table.specs.Image.{Image, view};
 ghost use Rattle.service.specs.Served.{Served};
 use service::ending;
-use table::cells;
 use table::moves;
+use table::numbers;
+use table::semaphores;
 
 pub fn create(s: &mut [u8], i: u32, count: u32) -> u8
     requires { ⌜ Image (now s) ⌝ }
-    ensures { λ r. ⌜ Served (objectCreateAnswer semaphores i (view (now (s .entry)))) (chosen (semaphoreCreate i count (view (now (s .entry))))) r (now (s .entry)) (now (s .exit)) ⌝ }
+    ensures { λ r. ⌜ Served (objectCreateAnswer semaphores i (view (now (s .entry)))) (chosen (create i count (view (now (s .entry))))) r (now (s .entry)) (now (s .exit)) ⌝ }
 {
-    let x = cells::semaphore_at(s, i as usize);
-    let n = object::create_answer(x.used, 16, i);
-    if service::refuses(n) {
-        return n;
+    if 16 <= i {
+        return 1;
     }
-    cells::set_semaphore(
+    if semaphores::get_used(s, i as usize) == 1 {
+        return 3;
+    }
+    semaphores::store(
         s,
         i as usize,
         rules::Semaphore {
@@ -31,86 +31,77 @@ pub fn create(s: &mut [u8], i: u32, count: u32) -> u8
         },
     );
     moves::choose(s);
-    n
+    0
 }
 
 pub fn delete(s: &mut [u8], i: u32, force: u32) -> u8
     requires { ⌜ Image (now s) ⌝ }
     ensures { λ r. ⌜ Served (objectDeleteAnswer semaphores i force (view (now (s .entry)))) (chosen (objectDelete semaphores i (view (now (s .entry))))) r (now (s .entry)) (now (s .exit)) ⌝ }
 {
-    let x = cells::semaphore_at(s, i as usize);
-    let n = object::delete_waiters(s, x.used, 16, 1, i, force);
+    if 16 <= i {
+        return 1;
+    }
+    let used = semaphores::get_used(s, i as usize);
+    let n = object::delete_waiters(s, used, 1 + i as usize, force);
     if service::refuses(n) {
         return n;
     }
-    cells::set_semaphore(s, i as usize, rules::Semaphore { used: 0, count: 0 });
+    semaphores::store(s, i as usize, rules::Semaphore { used: 0, count: 0 });
     moves::choose(s);
     n
 }
 
-// The answer of a wait for a semaphore in use.
-fn take_answer(s: &[u8], count: u32, block: u32) -> u8
-    requires { ⌜ Image (now s) ⌝ }
-    ensures { λ r. ⌜ r ≡ cond (ltb 0 count) 0 (waitAnswer block (view (now (s .entry)))) ⌝ }
+// A wait for semaphore i, in use: it is taken, or the caller waits.
+fn take(s: &mut [u8], i: usize, block: u32, limit: u32) -> u8
+    requires { ⌜ (i < 16) × Image (now s) ⌝ }
+    ensures { λ r. ⌜ Served (cond (semaphores .offers (view (now (s .entry))) i) 0 (blockAnswer block (view (now (s .entry))))) (chosen (wait i limit (view (now (s .entry))))) r (now (s .entry)) (now (s .exit)) ⌝ }
 {
+    let count = semaphores::get_count(s, i);
     if 0 < count {
+        semaphores::set_count(s, i, count - 1);
+        object::take_now(s);
+        moves::choose(s);
         return 0;
     }
-    object::wait_answer(s, block)
+    object::wait_for(s, 2, i as u8, 32, block, limit)
 }
 
 pub fn wait(s: &mut [u8], i: u32, block: u32, limit: u32) -> u8
     requires { ⌜ Image (now s) ⌝ }
-    ensures { λ r. ⌜ Served (semaphoreWaitAnswer i block (view (now (s .entry)))) (chosen (semaphoreWait i limit (view (now (s .entry))))) r (now (s .entry)) (now (s .exit)) ⌝ }
+    ensures { λ r. ⌜ Served (waitAnswer i block (view (now (s .entry)))) (chosen (wait i limit (view (now (s .entry))))) r (now (s .entry)) (now (s .exit)) ⌝ }
 {
-    let x = cells::semaphore_at(s, i as usize);
-    let m = take_answer(s, x.count, block);
-    let n = object::wait_on(s, x.used, 16, i, block, m);
-    if service::refuses(n) {
-        return n;
+    if numbers::get_running(s) == 0 {
+        return 6;
     }
-    if 0 < x.count {
-        cells::set_semaphore(
-            s,
-            i as usize,
-            rules::Semaphore {
-                used: 1,
-                count: x.count - 1,
-            },
-        );
-        object::take_now(s);
-        moves::choose(s);
-        return n;
+    if 16 <= i {
+        return 1;
     }
-    object::block_on(s, 2, i as u8, limit);
-    moves::choose(s);
-    n
+    if !(semaphores::get_used(s, i as usize) == 1) {
+        return 2;
+    }
+    if 1 < block {
+        return 4;
+    }
+    take(s, i as usize, block, limit)
 }
 
 pub fn post(s: &mut [u8], i: u32) -> u8
     requires { ⌜ Image (now s) ⌝ }
-    ensures { λ r. ⌜ Served (semaphorePostAnswer i (view (now (s .entry)))) (chosen (semaphorePost i (view (now (s .entry))))) r (now (s .entry)) (now (s .exit)) ⌝ }
+    ensures { λ r. ⌜ Served (postAnswer i (view (now (s .entry)))) (chosen (post i (view (now (s .entry))))) r (now (s .entry)) (now (s .exit)) ⌝ }
 {
     if 16 <= i {
         return 1;
     }
-    let x = cells::semaphore_at(s, i as usize);
-    if !(x.used == 1) {
+    if !(semaphores::get_used(s, i as usize) == 1) {
         return 2;
     }
-    if 4294967295 <= x.count {
+    let count = semaphores::get_count(s, i as usize);
+    if 4294967295 <= count {
         return 11;
     }
     let v = moves::first_in(s, 1 + i as usize);
     if v == 0 {
-        cells::set_semaphore(
-            s,
-            i as usize,
-            rules::Semaphore {
-                used: 1,
-                count: x.count + 1,
-            },
-        );
+        semaphores::set_count(s, i as usize, count + 1);
         moves::choose(s);
         return 0;
     }
@@ -123,6 +114,9 @@ pub fn abort(s: &mut [u8], i: u32) -> u8
     requires { ⌜ Image (now s) ⌝ }
     ensures { λ r. ⌜ Served (objectAbortAnswer semaphores i (view (now (s .entry)))) (chosen (objectAbort semaphores i (view (now (s .entry))))) r (now (s .entry)) (now (s .exit)) ⌝ }
 {
-    let x = cells::semaphore_at(s, i as usize);
-    object::abort_object(s, x.used, 16, 1, i)
+    if 16 <= i {
+        return 1;
+    }
+    let used = semaphores::get_used(s, i as usize);
+    object::abort_first(s, used, 1 + i as usize)
 }

@@ -1,34 +1,48 @@
 -- Waits that end, turn by turn.
-use mathlib.Core.Path.{_≡_, refl, ap, _∙_}
-use mathlib.Core.Logic.{⊎-elim}
-use Prim.Native.Nat.{ℕ, zero, suc, _-_, _≤_}
+use mathlib.Core.Path.{_≡_, refl, sym, ap, _∙_}
+use Prim.Native.Nat.{ℕ, zero, suc, _-_, _≤_, _<_}
 use native.Mathlib.Omega.{arith}
-use lib.ListN.{length, List·getD-eq-default}
+use lib.ListN.{length}
 use borrow.Author.Tests.{eq-eqb, ne-eqb}
-use Rattle.rules.specs.Sizes.{taskCount}
-use Rattle.rules.specs.Afresh.{lt-or-le}
-use Rattle.rules.specs.Table.{Table, taskOf, queueCount, isAble, noTask, firstIn}
-use Rattle.rules.specs.Family.{ofState, placeOf}
-use Rattle.rules.specs.Move.{put, walk, next, away, ready, ended, endedAll}
+use Rattle.rules.specs.Sizes.{taskCount, plain}
+use Rattle.rules.specs.declared.Task.{Task}
+use Rattle.rules.specs.Table.{Table, taskOf, firstIn, withWork, withState, withOutcome}
+use Rattle.rules.specs.Move.{put, walk, next, freshIn, putWork, away, ready, ended, endedAll}
+use Rattle.laws.specs.chains.Graph.{ends-sized}
+use Rattle.laws.specs.chains.Walk.{walkOn-past}
 use Rattle.laws.specs.queues.Put.{put-out, task-put-same}
-use Rattle.laws.specs.queues.Fields.{walk-place}
-use Rattle.laws.specs.queues.Stands.{delayed-place}
+use Rattle.laws.specs.queues.Fields.{bare, walk-bare}
 
 pub ended-is : (outcome i : ℕ) (t left settled : Table) → left ≡ put i (away (taskOf t i)) t → settled ≡ walk (next t i) left
     → put i (ready outcome (taskOf settled i)) settled ≡ ended outcome i t
 unfolding ended
 ended-is outcome i t left settled e d = rw (d, e)
 
--- A task whose wait ends stands in no queue until it becomes plain.
-pub settled-nowhere : (i : ℕ) (t left settled : Table) → length (t .tasks) ≡ taskCount → left ≡ put i (away (taskOf t i)) t → settled ≡ walk (next t i) left
-    → queueCount ≤ placeOf (taskOf settled i)
-unfolding placeOf ofState isAble
-settled-nowhere i t left settled size e d =
-    let same : placeOf (taskOf settled i) ≡ placeOf (taskOf left i) = ap (λ (u : Table). placeOf (taskOf u i)) d ∙ walk-place (next t i) left i in
-    rw same (⊎-elim
-    (λ l. let k : taskOf left i ≡ away (taskOf t i) = ap (λ (u : Table). taskOf u i) e ∙ task-put-same i _ t l size in omega (arith, ap placeOf k ∙ delayed-place (away (taskOf t i)) refl))
-    (λ l. let k : taskOf left i ≡ noTask = ap (λ (u : Table). taskOf u i) (e ∙ put-out i _ t l) ∙ List·getD-eq-default (t .tasks) noTask (omega arith) in omega (arith, ap placeOf k))
-    (lt-or-le i taskCount))
+-- A number that is no task's waits for nothing.
+pub ended-none : (outcome i : ℕ) (t : Table) → taskCount ≤ i → length (t .tasks) ≡ taskCount → ended outcome i t ≡ t
+unfolding ended
+ended-none outcome i t l size =
+    put-out i _ _ l
+    ∙ walkOn-past taskCount next freshIn putWork taskCount (next t i) _ (ends-sized t size i l)
+    ∙ put-out i _ t l
+
+-- A task whose wait ends is away until it becomes plain: a walk changes working priorities alone.
+module _ (i : ℕ) (t left settled : Table) (l : i < taskCount) (size : length (t .tasks) ≡ taskCount) (e : left ≡ put i (away (taskOf t i)) t) (d : settled ≡ walk (next t i) left) where
+  settled-bare : bare (taskOf settled i) ≡ bare (away (taskOf t i))
+  settled-bare =
+      ap (λ (u : Table). bare (taskOf u i)) d
+      ∙ walk-bare (next t i) left i
+      ∙ ap (λ (u : Table). bare (taskOf u i)) e
+      ∙ ap bare (task-put-same i (away (taskOf t i)) t l size)
+
+  pub settled-away : away (taskOf settled i) ≡ taskOf settled i
+  settled-away =
+      let w = taskOf settled i .work in
+      ap (λ (k : Task). withWork w (away k)) settled-bare ∙ ap (λ (k : Task). withWork w k) (sym settled-bare)
+
+-- What a task that is away becomes.
+pub away-ready : (outcome : ℕ) (k : Task) → away k ≡ k → withOutcome outcome (withState plain 0 k) ≡ ready outcome k
+away-ready outcome k h = ap (λ (x : Task). withOutcome outcome (withState plain 0 x)) (sym h)
 
 module _ (outcome q : ℕ) (t : Table) where
   pub all-none : (n : ℕ) → firstIn q t ≡ 0 → t ≡ endedAll n outcome q t

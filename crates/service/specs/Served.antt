@@ -7,7 +7,7 @@ use Rattle.rules.specs.Table.{Table}
 use Rattle.rules.specs.Step.{changes}
 use Rattle.rules.specs.Tape.{Bytes}
 use Rattle.table.specs.Image.{Image, view}
-use Rattle.table.specs.Lossless.{lossless}
+use Rattle.table.specs.Written.{lossless}
 
 -- A call answered r, from the bytes l with the bytes m, where the rules answer n and the table that they make is `new`: it answers
 -- n; where that changes anything the bytes show the new table, and else they are the very bytes that came.

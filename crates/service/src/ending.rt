@@ -1,34 +1,52 @@
 // Waits and delays that end.
 ghost use mathlib.Core.Path.{_≡_};
-ghost use Rattle.rules.specs.Move.{away, ready, ended, endedAll};
+ghost use Prim.Native.Nat.{_<_};
+ghost use Rattle.rules.specs.Sizes.{delayed};
+ghost use Rattle.rules.specs.Table.{taskOf, withState, withMark};
+ghost use Rattle.rules.specs.Move.{put, away, ready, ended, endedAll};
 ghost use Rattle.table.specs.Image.{Image, view};
 use chain::walk;
-use table::cells;
 use table::moves;
+use table::tasks;
 
-// A task that has left its queue and waits for nothing.
-fn away_from(k: rules::Task) -> rules::Task
-    ensures { λ r. ⌜ r ≡ away k ⌝ }
+// Task i leaves its queue and is delayed, with this due mark, or 0 and 0 for none. A number that is no task's changes nothing.
+pub fn delay_task(s: &mut [u8], i: usize, marked: u8, due: u32)
+    requires { ⌜ Image (now s) ⌝ }
+    ensures { λ _. ⌜ view (now (s .exit)) ≡ put i (withState delayed 0 (withMark marked due (taskOf (view (now (s .entry))) i))) (view (now (s .entry))) ⌝ }
 {
-    let mut x = k;
-    x.state = 1;
-    x.object = 0;
-    x.marked = 0;
-    x.due = 0;
-    x
+    if 32 <= i {
+        return;
+    }
+    let q = moves::place_of(s, i);
+    tasks::set_state(s, i, 1, 0);
+    tasks::set_mark(s, i, marked, due);
+    moves::leave_queue(s, q, i);
 }
 
-// A task that is plain again, with this outcome.
-pub fn ready_with(outcome: u8, k: rules::Task) -> rules::Task
-    ensures { λ r. ⌜ r ≡ ready outcome k ⌝ }
+// Task i becomes plain, with this outcome, and goes where it stands now. A number that is no task's changes nothing.
+pub fn stand_ready(s: &mut [u8], i: usize, outcome: u8)
+    requires { ⌜ Image (now s) ⌝ }
+    ensures { λ _. ⌜ view (now (s .exit)) ≡ put i (ready outcome (taskOf (view (now (s .entry))) i)) (view (now (s .entry))) ⌝ }
 {
-    let mut x = k;
-    x.state = 0;
-    x.object = 0;
-    x.marked = 0;
-    x.due = 0;
-    x.outcome = outcome;
-    x
+    if 32 <= i {
+        return;
+    }
+    let q = moves::place_of(s, i);
+    tasks::set_state(s, i, 0, 0);
+    tasks::set_mark(s, i, 0, 0);
+    tasks::set_outcome(s, i, outcome);
+    moves::settle(s, i, q);
+}
+
+// The same of a task that is away: it stands nowhere and has no mark.
+fn come_back(s: &mut [u8], i: usize, outcome: u8)
+    requires { ⌜ (i < 32) × Image (now s) × (away (taskOf (view (now s)) i) ≡ taskOf (view (now s)) i) ⌝ }
+    ensures { λ _. ⌜ view (now (s .exit)) ≡ put i (ready outcome (taskOf (view (now (s .entry))) i)) (view (now (s .entry))) ⌝ }
+{
+    tasks::set_state(s, i, 0, 0);
+    tasks::set_outcome(s, i, outcome);
+    let q = moves::place_of(s, i);
+    moves::join_queue(s, q, i);
 }
 
 // Task i leaves its queue, the chain from the holder moves, and it becomes plain.
@@ -36,12 +54,13 @@ pub fn end_wait(s: &mut [u8], outcome: u8, i: usize)
     requires { ⌜ Image (now s) ⌝ }
     ensures { λ _. ⌜ view (now (s .exit)) ≡ ended outcome i (view (now (s .entry))) ⌝ }
 {
-    let k = cells::task_at(s, i);
+    if 32 <= i {
+        return;
+    }
     let holder = chain::next_of(s, i);
-    moves::take_out(s, i, away_from(k));
+    delay_task(s, i, 0, 0);
     walk::walk_from(s, holder);
-    let settled = cells::task_at(s, i);
-    moves::bring_in(s, i, ready_with(outcome, settled));
+    come_back(s, i, outcome);
 }
 
 // The wait of each waiter of queue q ends, from the first.

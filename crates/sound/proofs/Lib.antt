@@ -1,2 +1,1 @@
-mod Scan
-mod Blank
+mod Turns

@@ -1,7 +1,8 @@
 pub mod Tests
-pub mod Shows
-pub mod Tasks
-pub mod Objects
+pub mod Rows
+pub mod Packed
 pub mod Lines
 pub mod Queues
+pub mod Waits
+pub mod Walks
 pub mod Whole

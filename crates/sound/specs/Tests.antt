@@ -21,18 +21,6 @@ same-test {a} {b} {P} d f = go a b d f
     go true false d f = sym (f .passes (d .holds refl))
     go false true d f = d .passes (f .holds refl)
 
--- The answer of a test decides what the test does.
-pub answers : {a b : Bool} {P : Type 0} → a ≡ b → Decides b P → Decides a P
-answers e d = record { holds = λ x. d .holds (sym e ∙ x); passes = λ p. e ∙ d .passes p }
-
--- A test that fails refuses whatever the statement is a part of.
-pub refused : {a b : Bool} {P R : Type 0} → Decides b R → (R → P) → Decides a P → a ≡ false → false ≡ b
-refused {a} {b} {P} {R} f part d e = go b f
-  where
-    go : (b : Bool) → Decides b R → false ≡ b
-    go false f = refl
-    go true f = sym e ∙ d .passes (part (f .holds refl))
-
 -- Where the first fails, the second is asked.
 pub otherwise : {a b : Bool} {A B : Type 0} → Decides a A → Decides b B → Decides (a || b) ((A → ⊥) → B)
 otherwise {a} {b} {A} {B} d f = go a d
@@ -62,35 +50,6 @@ always r = record { holds = λ e. r; passes = λ x. refl }
 pub never : {R : Type 0} → (R → ⊥) → Decides false R
 never n = record { holds = λ e. absurd (false≢true e); passes = λ r. absurd (n r) }
 
--- ---- each number below n
-
-pub each-none : (p : ℕ → Bool) → each 0 p ≡ true
-unfolding each
-each-none p = refl
-
-pub each-more : (p : ℕ → Bool) (n : ℕ) → each n p ≡ true → p n ≡ true → each (n + 1) p ≡ true
-unfolding each
-each-more p n h e = rw add-one (rw e h)
-
-pub each-stop : (p : ℕ → Bool) (n i : ℕ) → i < n → p i ≡ false → false ≡ each n p
-unfolding each
-each-stop p zero i h e = absurd (not-suc-le-zero h)
-each-stop p (suc n) i h e = go (ℕ-discrete i n) (p n) refl (λ l. each-stop p n i l e)
-  where
-    go : Dec (i ≡ n) → (b : Bool) → p n ≡ b → (i < n → false ≡ each n p) → false ≡ cond b (each n p) false
-    go d false q rest = refl
-    go (yes l) true q rest = absurd (true≢false (sym q ∙ rw l at e))
-    go (no l) true q rest = rest (omega arith)
-
--- One test more, with those before.
-pub each-and : (p : ℕ → Bool) (n : ℕ) (b : Bool) → b ≡ each n p → p n && b ≡ each (n + 1) p
-unfolding each
-each-and p n b e = rw (add-one, e) (go (p n))
-  where
-    go : (c : Bool) → c && each n p ≡ cond c (each n p) false
-    go true = refl
-    go false = refl
-
 pub and-first : (a b : Bool) → a && b ≡ true → a ≡ true
 and-first true b e = refl
 and-first false b e = e
@@ -98,3 +57,31 @@ and-first false b e = e
 pub and-second : (a b : Bool) → a && b ≡ true → b ≡ true
 and-second true b e = e
 and-second false b e = absurd (false≢true e)
+
+-- ---- each number below n: a loop that goes on to the end, and one that stops
+
+pub each-none : (p : ℕ → Bool) → true ≡ each 0 p
+unfolding each
+each-none p = refl
+
+pub each-and : (p : ℕ → Bool) (n : ℕ) {a b : Bool} → a ≡ p n → b ≡ each n p → a && b ≡ each (n + 1) p
+unfolding each
+each-and p n d e = rw (add-one, d, e) (go (p n))
+  where
+    go : (c : Bool) → c && each n p ≡ cond c (each n p) false
+    go true = refl
+    go false = refl
+
+pub each-more : (p : ℕ → Bool) (n : ℕ) → each n p ≡ true → p n ≡ true → each (n + 1) p ≡ true
+unfolding each
+each-more p n h e = rw add-one (rw e h)
+
+pub each-stop : (p : ℕ → Bool) (n i : ℕ) → i < n → p i ≡ false → each n p ≡ false
+unfolding each
+each-stop p zero i h e = absurd (not-suc-le-zero h)
+each-stop p (suc n) i h e = go (ℕ-discrete i n) (p n) refl (λ l. each-stop p n i l e)
+  where
+    go : Dec (i ≡ n) → (b : Bool) → p n ≡ b → (i < n → each n p ≡ false) → cond b (each n p) false ≡ false
+    go d false q rest = refl
+    go (yes l) true q rest = absurd (true≢false (sym q ∙ rw l at e))
+    go (no l) true q rest = rest (omega arith)

@@ -1,98 +1,146 @@
--- What the passes test together are the standing rules.
-use mathlib.Core.Path.{sym, subst}
-use mathlib.Core.Logic.{inl, inr, ⊎-elim}
-use mathlib.Core.Bool.{Bool, true, false, cond}
-use Prim.Native.Nat.{_-_, _≤_, _<_}
-use lib.Dec.{eqb, leb}
+-- What is tested together is the standing rules.
+use mathlib.Core.Path.{_≡_, refl, sym, ap, _∙_}
+use mathlib.Core.Bool.{Bool, true, false, cond, _&&_, _||_, and-true}
+use mathlib.Core.List.{List}
+use Prim.Native.Nat.{ℕ, _+_, _-_}
+use native.Mathlib.Omega.{arith}
+use lib.Dec.{eqb, leb, ltb}
+use borrow.Author.Tests.{eq-eqb, ne-eqb, le-leb}
 use Rattle.rules.specs.Sizes.{taskCount, semaphoreCount, mutexCount, mostNested, ticksRound}
-use Rattle.rules.specs.Table.{Table, taskOf, semaphoreOf, ableQueue, firstIn, isAble}
-use Rattle.rules.specs.Chain.{Fresh}
-use Rattle.rules.specs.Afresh.{fresh-is, fresh-one}
-use Rattle.rules.specs.Move.{next, baseOf, freshIn}
-use Rattle.rules.specs.Sound.{Each, Shaped, SoundSemaphore, WorkedOut, SoundRuns, Sound, isWorkedOut, isSound}
-use Rattle.rules.specs.Decides.{Decides, equals, at-most, itself, last, each-one}
-use Rattle.rules.specs.Tested.{ends, sound}
-use Rattle.sound.specs.Tests.{by-cases, always, never}
-use Rattle.sound.specs.Tasks.{TaskPassed}
-use Rattle.sound.specs.Objects.{MutexPassed}
-use Rattle.sound.specs.Queues.{QueuesPassed}
+use Rattle.rules.specs.Table.{Table, taskOf, semaphoreOf, mutexOf, queueCount, ableQueue, firstIn, isAble}
+use Rattle.rules.specs.Sound.{Each, each, Shaped, SoundTasks, SoundQueues, isSoundTask, isSoundSemaphore, isSoundMutex, isSoundQueues, isWorkedOut, isSoundRuns, isSoundObjects, isSoundWithin, isSound}
+use Rattle.rules.specs.Tested.{queued}
+use Rattle.rules.specs.Decides.{Decides, itself, first, last, both, each-one}
+use Rattle.sound.specs.Tests.{same-test}
+use Rattle.sound.specs.Rows.{areNotDue, areTasksSound, areObjectsSound}
+use Rattle.sound.specs.Packed.{leads, frees, slotCount, packed-all, ordered-packed}
+use Rattle.sound.specs.Queues.{Spotted, spotsAt, isLined, isMet, queues-say}
+use Rattle.sound.specs.Waits.{Waits, HoldersUsed, isFrontSound, isHolderSound, areWaitsSound, areHoldersUsed, waits-say, waits-right}
+use Rattle.sound.specs.Walks.{isPassed, AllWalked}
 
--- ---- lock depth and running task
+-- ---- the queues
 
-unfoldable pub isRunRight : Table → Bool
-isRunRight t =
-    cond (leb (t .depth) mostNested)
-    (cond (leb (t .running) taskCount)
-    (cond (eqb (t .depth) 0) (eqb (t .running) (firstIn ableQueue t))
-    (cond (eqb (t .running) 0) true (isAble (taskOf t (t .running - 1)))))
-    false)
-    false
+-- The rules' own: the queues, who waits, who holds.
+abbrev pub areQueuesSound : Table → Bool
+areQueuesSound t = isSoundQueues t && (areWaitsSound t && areHoldersUsed t)
 
--- The lock depth, and who runs.
-pub record RunRight (t : Table) : Type 0 where
-  pub depth : t .depth ≤ mostNested
-  pub runs : SoundRuns t
+each-both : (n : ℕ) (p q : ℕ → Bool) → each n (λ i. p i && q i) ≡ each n p && each n q
+each-both n p q = same-test pairs (first (λ r i l. r i l .0) (each-one λ i l. itself) λ x. last (λ r i l. r i l .1) (each-one λ i l. itself) λ y i l. (x i l, y i l))
+  where
+    pairs : Decides (each n (λ i. p i && q i)) (Each n (λ i. (p i ≡ true) × (q i ≡ true)))
+    pairs = each-one λ i l. both itself itself
 
-pub run-right : (t : Table) → Decides (isRunRight t) (RunRight t)
-unfolding isRunRight
-run-right t =
-    by-cases at-most
-    (λ d. by-cases at-most
-    (λ r. by-cases equals
-    (λ z. last (λ x. x .runs .first z) equals λ f. record { depth = d; runs = record { range = r; first = λ e. f; able = λ n. absurd (n z) } })
-    (λ n. by-cases equals
-    (λ z. always (record { depth = d; runs = record { range = r; first = λ e. absurd (n e); able = λ e. inl z } }))
-    (λ m. last (λ x. ⊎-elim (λ z. absurd (m z)) (λ a. a) (x .runs .able n)) itself λ a. record { depth = d; runs = record { range = r; first = λ e. absurd (n e); able = λ e. inr a } })))
-    (λ m. never (λ x. m (x .runs .range))))
-    (λ m. never (λ x. m (x .depth)))
+passed-both : (spots : List ℕ) (t : Table) → each queueCount (isPassed spots t) ≡ each queueCount (isLined spots t) && each queueCount (isFrontSound t)
+unfolding isPassed
+passed-both spots t = each-both queueCount (isLined spots t) (isFrontSound t)
 
--- ---- working priorities
+turned : (l f p m h : Bool) → (l && f) && (p && (m && h)) ≡ p && ((l && m) && (f && h))
+turned false f true m h = refl
+turned false f false m h = refl
+turned true false true true h = refl
+turned true false true false h = refl
+turned true false false m h = refl
+turned true true true m h = refl
+turned true true false m h = refl
 
-pub works-right : (t : Table) → Shaped t → Decides (isWorkedOut t) (Each taskCount (λ i. Fresh taskCount (next t) (baseOf t) i (taskOf t i .work)))
-unfolding isWorkedOut freshIn
-works-right t s =
-    each-one λ i l.
-    last (λ f. fresh-one f (fresh-is (baseOf t) (ends t s) l)) equals λ e.
-    subst (Fresh taskCount (next t) (baseOf t) i) (sym e) (fresh-is (baseOf t) (ends t s) l)
+module _ {t : Table} {spots : List ℕ} (shaped : Shaped t) (tasks : SoundTasks t) (spotted : Spotted t taskCount spots) where
+  abbrev areLined : Bool
+  areLined = each queueCount (isLined spots t)
+
+  abbrev areFrontsSound : Bool
+  areFrontsSound = each queueCount (isFrontSound t)
+
+  abbrev arePacked : Bool
+  arePacked = eqb (leads queueCount t + frees queueCount t) slotCount
+
+  abbrev areMet : List ℕ → Bool
+  areMet after = each taskCount (isMet after)
+
+  abbrev areHoldersSound : Bool
+  areHoldersSound = each mutexCount (isHolderSound t)
+
+  told : {n : ℕ} {after : List ℕ} → AllWalked t spots n after
+      → eqb (n + frees queueCount t) slotCount && (areMet after && areHoldersSound) ≡ each queueCount (isPassed spots t) && (arePacked && (areMet (spotsAt spots t queueCount) && areHoldersSound))
+  told {n} {after} w = go (each queueCount (isPassed spots t)) (w .filled) (w .left)
+    where
+      go : (b : Bool) → n ≡ cond b (leads queueCount t) (slotCount + 1) → (b ≡ true → after ≡ spotsAt spots t queueCount)
+          → eqb (n + frees queueCount t) slotCount && (areMet after && areHoldersSound) ≡ b && (arePacked && (areMet (spotsAt spots t queueCount) && areHoldersSound))
+      go true e f = rw (e, f refl)
+      go false e f = rw (ne-eqb (n + frees queueCount t) slotCount (λ z. omega arith))
+
+  say : Decides (arePacked && ((areLined && areMet (spotsAt spots t queueCount)) && (areFrontsSound && areHoldersSound))) (SoundQueues t × (Waits t × HoldersUsed t))
+  say =
+      first (λ r q h. ordered-packed (r .0 .ordered q h)) (packed-all t (shaped .slots)) λ packed.
+      first (λ r. r .0) (queues-say shaped tasks spotted packed) λ s.
+      last (λ r. r .1) (waits-say tasks s) λ w.
+      (s, w)
+
+  -- What the code tests of the queues.
+  pub queues-told : {n : ℕ} {after : List ℕ} → AllWalked t spots n after
+      → eqb (n + frees queueCount t) slotCount && (each taskCount (isMet after) && each mutexCount (isHolderSound t)) ≡ areQueuesSound t
+  queues-told w =
+      told w
+      ∙ ap (λ (b : Bool). b && (arePacked && (areMet (spotsAt spots t queueCount) && areHoldersSound))) (passed-both spots t)
+      ∙ turned areLined areFrontsSound arePacked (areMet (spotsAt spots t queueCount)) areHoldersSound
+      ∙ same-test say (both (queued t) (waits-right t))
+
+-- ---- who runs
+
+-- The rules' own: lock depth and running task.
+abbrev pub isRunSound : Table → Bool
+isRunSound t = leb (t .depth) mostNested && isSoundRuns t
+
+unfoldable pub mayRun : Table → ℕ → Bool
+mayRun t v = leb v taskCount && (eqb v 0 || isAble (taskOf t (v - 1)))
+
+module _ (t : Table) where
+  pub runs-unlocked : t .depth ≡ 0 → leb (t .running) taskCount && eqb (t .running) (firstIn ableQueue t) ≡ isRunSound t
+  unfolding isSoundRuns
+  runs-unlocked e = rw (le-leb (t .depth) mostNested (omega arith), eq-eqb (t .depth) 0 e, and-true)
+
+  pub runs-locked : (t .depth ≡ 0 → ⊥) → leb (t .depth) mostNested && mayRun t (t .running) ≡ isRunSound t
+  unfolding isSoundRuns mayRun
+  runs-locked n = rw (ne-eqb (t .depth) 0 n)
 
 -- ---- all of it
 
-pub record Parts (t : Table) : Type 0 where
-  pub tasks : Each taskCount (λ i. TaskPassed t i (taskOf t i))
-  pub semaphores : Each semaphoreCount (λ s. SoundSemaphore (semaphoreOf t s))
-  pub mutexes : Each mutexCount (MutexPassed t)
-  pub queued : QueuesPassed t
-  pub worked : WorkedOut t
-  pub run : RunRight t
+-- The tests in the order of the code and in that of the rules.
+reordered : (tasks notDue tick semaphores mutexes queues waits holders works depth runs : Bool)
+    → (tasks && (notDue && tick)) && ((semaphores && mutexes) && ((queues && (waits && holders)) && (works && (depth && runs))))
+    ≡ (queues && (works && (tasks && ((semaphores && (mutexes && (waits && holders))) && (tick && depth))))) && (notDue && runs)
+reordered tasks notDue tick semaphores mutexes queues waits holders works depth runs =
+    same-test
+    (both (both (is tasks) (both (is notDue) (is tick))) (both (both (is semaphores) (is mutexes)) (both (both (is queues) (both (is waits) (is holders))) (both (is works) (both (is depth) (is runs))))))
+    (last
+    (λ ((ts, (nd, ti)), ((se, mu), ((qs, (wa, ho)), (wo, (de, ru))))). ((qs, (wo, (ts, ((se, (mu, (wa, ho))), (ti, de))))), (nd, ru)))
+    (both (both (is queues) (both (is works) (both (is tasks) (both (both (is semaphores) (both (is mutexes) (both (is waits) (is holders)))) (both (is tick) (is depth)))))) (both (is notDue) (is runs)))
+    (λ ((qs, (wo, (ts, ((se, (mu, (wa, ho))), (ti, de))))), (nd, ru)). ((ts, (nd, ti)), ((se, mu), ((qs, (wa, ho)), (wo, (de, ru)))))))
+  where
+    is : (b : Bool) → Decides b (b ≡ true)
+    is b = itself
 
-module _ (t : Table) (shaped : Shaped t) (tick : t .tick < ticksRound) where
-  from-parts : Parts t → Sound t
-  from-parts p =
-      record {
-        settled =
-            record {
-              queued = record { shaped = shaped; places = p .queued .counts; nothingElse = p .queued .within; ordered = p .queued .ordered };
-              worked = p .worked;
-              tasks = λ i l. p .tasks i l .right;
-              objects = record { semaphores = p .semaphores; mutexes = λ m l. p .mutexes m l .right; waits = λ i l. p .tasks i l .served; holders = λ m l. p .mutexes m l .holder };
-              tick = tick;
-              depth = p .run .depth;
-            };
-        notDue = λ i l. p .tasks i l .timely .notDue;
-        runs = p .run .runs;
-      }
+sound-parts : (t : Table) → areTasksSound t && (areObjectsSound t && (areQueuesSound t && (isWorkedOut t && isRunSound t))) ≡ isSound t
+unfolding isSound isSoundWithin isSoundObjects
+sound-parts t =
+    reordered
+    (each taskCount (λ i. isSoundTask (taskOf t i)))
+    (areNotDue t)
+    (ltb (t .tick) ticksRound)
+    (each semaphoreCount (λ i. isSoundSemaphore (semaphoreOf t i)))
+    (each mutexCount (λ i. isSoundMutex (mutexOf t i)))
+    (isSoundQueues t)
+    (areWaitsSound t)
+    (areHoldersUsed t)
+    (isWorkedOut t)
+    (leb (t .depth) mostNested)
+    (isSoundRuns t)
 
-  to-parts : Sound t → Parts t
-  to-parts s =
-      let h = s .settled in
-      record {
-        tasks = λ i l. record { right = h .tasks i l; timely = record { plainMark = h .tasks i l .plainMark; delayMark = h .tasks i l .delayMark; notDue = s .notDue i l }; served = h .objects .waits i l };
-        semaphores = h .objects .semaphores;
-        mutexes = λ m l. record { right = h .objects .mutexes m l; holder = h .objects .holders m l };
-        queued = record { counts = h .queued .places; within = h .queued .nothingElse; ordered = h .queued .ordered };
-        worked = h .worked;
-        run = record { depth = h .depth; runs = s .runs };
-      }
+module _ (t : Table) where
+  abbrev rest : Bool
+  rest = areObjectsSound t && (areQueuesSound t && (isWorkedOut t && isRunSound t))
 
-  pub sound-parts : Decides (isSound t) (Parts t)
-  sound-parts = record { holds = λ e. to-parts (sound t .holds e); passes = λ p. sound t .passes (from-parts p) }
+  pub sound-never : areTasksSound t ≡ false → false ≡ isSound t
+  sound-never e = ap (λ (b : Bool). b && rest) (sym e) ∙ sound-parts t
+
+  pub sound-rest : areTasksSound t ≡ true → areObjectsSound t && (areQueuesSound t && (isWorkedOut t && isRunSound t)) ≡ isSound t
+  sound-rest e = ap (λ (b : Bool). b && rest) (sym e) ∙ sound-parts t

@@ -1,59 +1,53 @@
-// The standing rules, tested on an image.
+// The standing rules, tested on an image: each field in a row over all tasks or objects, then the queues, the working priorities and who runs.
 ghost use mathlib.Core.Path.{_≡_};
 ghost use Rattle.rules.specs.Sound.{isSound};
 ghost use Rattle.table.specs.Image.{Image, view};
-ghost use Rattle.sound.specs.Whole.{isRunRight};
+ghost use Rattle.sound.specs.Whole.{mayRun, isRunSound};
 
+mod mutexes;
 mod objects;
 mod queues;
+mod semaphores;
 mod tasks;
+mod walk;
 mod works;
 
-// Lock depth and running task.
-fn is_run_right(s: &[u8]) -> bool
+// Whether v, a task's number plus 1 or 0 for none, may run while the scheduler is locked.
+fn may_run(s: &[u8], v: u8) -> bool
     requires { ⌜ Image (now s) ⌝ }
-    ensures { λ r. ⌜ r ≡ isRunRight (view (now (s .entry))) ⌝ }
+    ensures { λ r. ⌜ r ≡ mayRun (view (now (s .entry))) v ⌝ }
 {
-    let depth = table::cells::get_depth(s);
-    let v = table::cells::get_running(s);
-    if 250 < depth {
-        return false;
+    if v == 0 {
+        return true;
     }
     if 32 < v {
         return false;
     }
-    if depth == 0 {
-        let front = table::moves::first_in(s, 0);
-        return v == front;
-    }
-    if v == 0 {
-        return true;
-    }
-    let k = table::cells::task_at(s, v as usize - 1);
-    table::moves::is_able(k)
+    table::moves::is_able(s, v as usize - 1)
 }
 
-// Whether the table that the image shows is sound: a pass over the tasks, one over the objects, one over the queues. The pass over the
-// tasks fills the array that the queues are held against.
+// Lock depth and running task.
+fn is_run_right(s: &[u8]) -> bool
+    requires { ⌜ Image (now s) ⌝ }
+    ensures { λ r. ⌜ r ≡ isRunSound (view (now (s .entry))) ⌝ }
+{
+    let depth = table::numbers::get_depth(s);
+    let v = table::numbers::get_running(s);
+    if depth == 0 {
+        let front = table::moves::first_in(s, 0);
+        return (v <= 32) & (v == front);
+    }
+    (depth <= 250) & may_run(s, v)
+}
+
+// Whether the table that the image shows is sound. The queues are looked at where the tasks are right, so that each has a place.
 pub fn is_sound(s: &[u8]) -> bool
     requires { ⌜ Image (now s) ⌝ }
     ensures { λ r. ⌜ r ≡ isSound (view (now (s .entry))) ⌝ }
 {
-    let mut spots = [33u8; 32];
-    if !tasks::are_tasks_right(s, &mut spots) {
+    if !tasks::are_tasks_right(s) {
         return false;
     }
-    if !objects::are_semaphores_right(s) {
-        return false;
-    }
-    if !objects::are_mutexes_right(s) {
-        return false;
-    }
-    if !queues::are_queues_right(s, &mut spots) {
-        return false;
-    }
-    if !works::are_works_right(s) {
-        return false;
-    }
-    is_run_right(s)
+    objects::are_objects_right(s)
+        & (queues::are_queues_right(s) & (works::are_works_right(s) & is_run_right(s)))
 }

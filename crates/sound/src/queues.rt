@@ -1,102 +1,149 @@
-// The queues. `spots` has where each task stands, 33 for none. A slot strikes the task's spot out, and so it can stand in no second slot;
-// a spot that is left at the end is a task that stands nowhere.
+// The queues, who waits, and who holds.
 ghost use mathlib.Core.Path.{_≡_};
-ghost use Prim.Native.Nat.{_<_};
-ghost use lib.Dec.{leb};
+ghost use mathlib.Core.Bool.{cond};
+ghost use Prim.Native.Nat.{_+_, _≤_, _<_};
 ghost use lib.ListN.{length, getD};
-ghost use Rattle.rules.specs.Sound.{each};
-ghost use Rattle.rules.specs.Decides.{Decides};
+ghost use Rattle.queue.specs.Order.{one, count};
+ghost use Rattle.rules.specs.Sizes.{taskCount, mutexCount};
+ghost use Rattle.rules.specs.Table.{taskOf, queueOf, queueCount};
+ghost use Rattle.rules.specs.Family.{placeOf};
+ghost use Rattle.rules.specs.Sound.{each, SoundTasks};
 ghost use Rattle.table.specs.Image.{Image, view};
-ghost use Rattle.sound.specs.Tasks.{Spotted};
-ghost use Rattle.sound.specs.Lines.{taken, filled, mayStand, LinePassed};
-ghost use Rattle.sound.specs.Queues.{QueuesPassed};
+ghost use Rattle.sound.specs.Packed.{frees};
+ghost use Rattle.sound.specs.Queues.{Spotted, isMet};
+ghost use Rattle.sound.specs.Waits.{isHolderSound};
+ghost use Rattle.sound.specs.Whole.{areQueuesSound};
+use crate::walk;
+use table::layout;
+use table::moves;
+use table::mutexes;
 
-// 1 for a slot that is not free.
-fn is_taken(v: u8) -> u8
-    ensures { λ r. ⌜ r ≡ taken v ⌝ }
+const ALL_SLOTS: usize = layout::QUEUES * layout::SLOTS;
+
+// The queues by three.
+const THREES: usize = layout::QUEUES / 3;
+
+fn pick(b: bool, x: u8, y: u8) -> u8
+    ensures { λ r. ⌜ r ≡ cond b x y ⌝ }
 {
-    if v == 0 {
-        return 0;
+    if b {
+        return x;
     }
-    1
+    y
 }
 
-// How many slots are not free. No branch for a slot, so that the compiler takes many at once.
-fn filled_slots(ids: &[u8]) -> u8
-    requires { ⌜ length (now ids) ≡ 32 ⌝ }
-    ensures { λ r. ⌜ r ≡ filled (now (ids .entry)) ⌝ }
+// The queue where task i stands, 33 for none: no branch, so that the compiler takes many tasks at once.
+fn spot_of(s: &[u8], i: usize) -> u8
+    requires { ⌜ (i < taskCount) × Image (now s) × SoundTasks (view (now s)) ⌝ }
+    ensures { λ r. ⌜ r ≡ placeOf (taskOf (view (now (s .entry))) i) ⌝ }
 {
-    let mut n: u8 = 0;
-    let mut j = 0;
-    while j < 32 {
-        n += is_taken(ids[j]);
-        j += 1;
-    }
-    n
+    let state = table::tasks::get_state(s, i);
+    let object = table::tasks::get_object(s, i);
+    let waits = pick(state == 2, 1 + object, pick(state == 3, 17 + object, 33));
+    pick(moves::is_able(s, i), 0, waits)
 }
 
-// Whether v may stand next in queue q, behind a task of this key.
-fn may_stand(v: u8, key: u8, keys: &[u8], spots: &[u8], q: u8) -> bool
-    requires { ⌜ (length (now keys) ≡ 32) × (length (now spots) ≡ 32) ⌝ }
-    ensures { λ r. ⌜ r ≡ mayStand q key (now (keys .entry)) (now (spots .entry)) v ⌝ }
+fn fill_spots(s: &[u8], spots: &mut [u8])
+    requires { ⌜ Image (now s) × SoundTasks (view (now s)) × (length (now spots) ≡ taskCount) ⌝ }
+    ensures { λ _. ⌜ Spotted (view (now (s .entry))) taskCount (now (spots .exit)) ⌝ }
 {
-    if v == 0 {
+    let mut i = 0;
+    while i < layout::TASKS {
+        spots[i] = spot_of(s, i);
+        i += 1;
+    }
+}
+
+// Whether the holder of mutex m, if it has one, is in use and does not wait for it.
+fn is_holder_right(s: &[u8], spots: &[u8], m: usize) -> bool
+    requires { ⌜ (m < mutexCount) × Image (now s) × Spotted (view (now s)) taskCount (now spots) ⌝ }
+    ensures { λ r. ⌜ r ≡ isHolderSound (view (now (s .entry))) m ⌝ }
+{
+    let h = mutexes::get_holder(s, m);
+    if h == 0 {
+        return true;
+    }
+    if 32 < h {
         return false;
     }
-    if 32 < v {
-        return false;
-    }
-    let i = v as usize - 1;
-    (spots[i] == q) & (key <= keys[i])
+    let i = h as usize - 1;
+    (table::tasks::get_used(s, i) == 1) & (spots[i] != 17 + m as u8)
 }
 
-// Queue q: as many slots as are filled at all are filled from the front on.
-fn is_lined(ids: &[u8], keys: &[u8], spots: &mut [u8], q: u8) -> bool
-    requires { ⌜ (length (now ids) ≡ 32) × (length (now keys) ≡ 32) × (length (now spots) ≡ 32) ⌝ }
-    ensures { λ r. ⌜ LinePassed (now (keys .entry)) q (now (ids .entry)) (now (spots .entry)) r (now (spots .exit)) ⌝ }
+fn are_holders_right(s: &[u8], spots: &[u8]) -> bool
+    requires { ⌜ Image (now s) × Spotted (view (now s)) taskCount (now spots) ⌝ }
+    ensures { λ r. ⌜ r ≡ each mutexCount (isHolderSound (view (now (s .entry)))) ⌝ }
 {
-    let n = filled_slots(ids);
-    let mut key: u8 = 0;
-    let mut j: u8 = 0;
-    while j < n {
-        let v = ids[j as usize];
-        if !may_stand(v, key, keys, spots, q) {
-            return false;
-        }
-        let i = v as usize - 1;
-        key = keys[i];
-        spots[i] = 255;
-        j += 1;
+    let mut all = true;
+    let mut m = 0;
+    while m < layout::MUTEXES {
+        all = is_holder_right(s, spots, m) & all;
+        m += 1;
     }
-    true
+    all
 }
 
 // Whether no task is left that should stand in a queue.
 fn are_all_met(spots: &[u8]) -> bool
-    requires { ⌜ length (now spots) ≡ 32 ⌝ }
-    ensures { λ r. ⌜ r ≡ each 32 (λ i. leb 33 (getD (now (spots .entry)) i 0)) ⌝ }
+    requires { ⌜ length (now spots) ≡ taskCount ⌝ }
+    ensures { λ r. ⌜ r ≡ each taskCount (isMet (now (spots .entry))) ⌝ }
 {
     let mut all = true;
     let mut i = 0;
-    while i < 32 {
+    while i < layout::TASKS {
         all = (33 <= spots[i]) & all;
         i += 1;
     }
     all
 }
 
-pub fn are_queues_right(s: &[u8], spots: &mut [u8]) -> bool
-    requires { ⌜ Image (now s) × (length (now spots) ≡ 32) × Spotted (view (now s)) (now spots) ⌝ }
-    ensures { λ r. ⌜ Decides r (QueuesPassed (view (now (s .entry)))) ⌝ }
+// 1 where slot j of queue q is free.
+fn free_at(s: &[u8], q: usize, j: usize) -> u8
+    requires { ⌜ (q < queueCount) × (j < taskCount) × Image (now s) ⌝ }
+    ensures { λ r. ⌜ (r ≡ one 0 (getD (queueOf (view (now (s .entry))) q) j 0)) × (r ≤ 1) ⌝ }
 {
-    let mut q = 0;
-    while q < 33 {
-        let a = 640 + q * 32;
-        let e = a + 32;
-        if !is_lined(&s[a..e], &s[..32], spots, q as u8) {
-            return false;
-        }
-        q += 1;
+    if moves::slot_in(s, q, j) == 0 {
+        return 1;
     }
-    are_all_met(spots)
+    0
+}
+
+// The free slots of three queues: no branch, and few enough for a byte, so that the compiler counts many at once.
+fn free_in_three(s: &[u8], q: usize) -> u8
+    requires { ⌜ (q + 2 < queueCount) × Image (now s) ⌝ }
+    ensures { λ r. ⌜ r ≡ count 0 (queueOf (view (now (s .entry))) q) + (count 0 (queueOf (view (now (s .entry))) (q + 1)) + count 0 (queueOf (view (now (s .entry))) (q + 2))) ⌝ }
+{
+    let mut n: u8 = 0;
+    let mut j = 0;
+    while j < layout::SLOTS {
+        n += free_at(s, q, j) + (free_at(s, q + 1, j) + free_at(s, q + 2, j));
+        j += 1;
+    }
+    n
+}
+
+fn free_slots(s: &[u8]) -> usize
+    requires { ⌜ Image (now s) ⌝ }
+    ensures { λ r. ⌜ r ≡ frees queueCount (view (now (s .entry))) ⌝ }
+{
+    let mut n = 0;
+    let mut i = 0;
+    while i < THREES {
+        n += free_in_three(s, 3 * i) as usize;
+        i += 1;
+    }
+    n
+}
+
+// Queues, waits and holders. Each slot that is filled is one from the front of its queue on, where these and the free ones are all there are.
+pub fn are_queues_right(s: &[u8]) -> bool
+    requires { ⌜ Image (now s) × SoundTasks (view (now s)) ⌝ }
+    ensures { λ r. ⌜ r ≡ areQueuesSound (view (now (s .entry))) ⌝ }
+{
+    let mut spots = [33u8; 32];
+    fill_spots(s, &mut spots);
+    let held = are_holders_right(s, &spots);
+    let n = walk::walk_queues(s, &mut spots);
+    let free = free_slots(s);
+    (n + free == ALL_SLOTS) & (are_all_met(&spots) & held)
 }

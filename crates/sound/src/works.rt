@@ -3,17 +3,18 @@ ghost use mathlib.Core.Path.{_≡_};
 ghost use Rattle.rules.specs.Sound.{isWorkedOut};
 ghost use Rattle.table.specs.Image.{Image, view};
 ghost use Rattle.chain.specs.Given.{Given};
+use table::layout;
 
-// Whether the first 32 bytes, the working priorities, are these.
 fn are_works(s: &[u8], given: &[u8]) -> bool
     requires { ⌜ Image (now s) × Given (view (now s)) (now given) ⌝ }
     ensures { λ r. ⌜ r ≡ isWorkedOut (view (now (s .entry))) ⌝ }
 {
     let mut all = true;
     let mut i = 0;
-    while i < 32 {
-        let p = chain::fresh_of(s, given, i);
-        all = (s[i] == p) & all;
+    while i < layout::TASKS {
+        let work = table::tasks::get_work(s, i);
+        let fresh = chain::fresh_of(s, given, i);
+        all = (work == fresh) & all;
         i += 1;
     }
     all

@@ -1,4 +1,1 @@
-pub mod Changes
-pub mod Entries
-pub mod Stores
 pub mod Places

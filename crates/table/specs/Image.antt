@@ -1,106 +1,78 @@
--- The layout of the image, and the table that it shows. docs/IMAGE.md lists every offset.
+-- The layout of the image, and the table that it shows: a column for each field of the tasks and of each kind of object (`kinds`), a row of
+-- slots for each queue, and the single numbers. docs/IMAGE.md lists every offset.
 use mathlib.Core.Path.{_≡_}
 use mathlib.Core.List.{List, [], _∷_, _++_}
-use Prim.Native.Nat.{ℕ, _+_, _*_, _<_}
-use lib.ListN.{length, getD}
-use Rattle.rules.specs.declared.Task.{Task}
-use Rattle.rules.specs.declared.Semaphore.{Semaphore}
-use Rattle.rules.specs.declared.Mutex.{Mutex}
-use Rattle.rules.specs.Table.{Table}
-use Rattle.table.specs.Parts.{part, tabulate, wordAt, bytesOf}
+use Prim.Native.Nat.{ℕ, _+_}
+use lib.ListN.{length, replicate}
+use Rattle.columns.specs.Columns.{Column, column, total, columns, entry, image}
+use Rattle.columns.specs.Rows.{records, columnsOf}
+use Rattle.columns.specs.Runs.{runOf}
+use Rattle.rules.specs.Sizes.{taskCount}
+use Rattle.rules.specs.Table.{Table, queueCount}
+use Rattle.table.specs.kinds.Task as task
+use Rattle.table.specs.kinds.Semaphore as semaphore
+use Rattle.table.specs.kinds.Mutex as mutex
 
--- ---- where things stand
+-- ---- queues: a row of slots for each, which can be lent
+
+abbrev pub slotCount : ℕ
+slotCount = taskCount
+
+abbrev pub queueFirst : ℕ
+queueFirst = mutex.kind .first + mutex.kind .wide
+
+abbrev pub queueColumns : List Column
+queueColumns = replicate queueCount (column 1 slotCount)
+
+-- ---- single numbers: columns with one entry
+
+abbrev pub tickColumn : ℕ
+tickColumn = queueFirst + queueCount
+
+abbrev pub depthColumn : ℕ
+depthColumn = tickColumn + 1
+
+abbrev pub runningColumn : ℕ
+runningColumn = depthColumn + 1
+
+abbrev pub numberColumns : List Column
+numberColumns = column 4 1 ∷ column 1 1 ∷ column 1 1 ∷ []
+
+-- ---- the image, and the table that it shows
+
+abbrev pub layout : List Column
+layout = task.widths ++ (semaphore.widths ++ (mutex.widths ++ (queueColumns ++ numberColumns)))
 
 abbrev pub imageSize : ℕ
-imageSize = 1702
-
--- 32 working priorities, 32 states, 32 due marks, 32 cells of a task's other fields, 16 semaphores, 16 mutexes, 33 queues of 32 slots.
-abbrev pub stateAt : ℕ → ℕ
-stateAt i = 32 + i
-
-abbrev pub dueAt : ℕ → ℕ
-dueAt i = 64 + i * 4
-
-abbrev pub cellAt : ℕ → ℕ
-cellAt i = 192 + i * 10
-
-abbrev pub semaphoreAt : ℕ → ℕ
-semaphoreAt s = 512 + s * 5
-
-abbrev pub mutexAt : ℕ → ℕ
-mutexAt m = 592 + m * 3
-
-abbrev pub queueAt : ℕ → ℕ
-queueAt q = 640 + q * 32
-
-abbrev pub tickAt : ℕ
-tickAt = 1696
-
-abbrev pub depthAt : ℕ
-depthAt = 1700
-
-abbrev pub runningAt : ℕ
-runningAt = 1701
+imageSize = total layout
 
 abbrev pub Image : List ℕ → Type 0
 Image l = length l ≡ imageSize
 
--- ---- what a cell shows, and the cell that shows it
-
--- A task, of its working priority, its state, its due mark and the cell of its other fields.
-unfoldable pub taskIn : (work state due : ℕ) → List ℕ → Task
-taskIn work state due b =
+-- The table that the numbers of the columns are.
+abbrev pub shown : List (List ℕ) → Table
+shown n =
     record {
-      used = getD b 0 0;
-      base = getD b 1 0;
-      work = work;
-      suspend = getD b 2 0;
-      quantum = wordAt 2 3 b;
-      left = wordAt 2 5 b;
-      state = state;
-      object = getD b 7 0;
-      marked = getD b 8 0;
-      due = due;
-      outcome = getD b 9 0;
+      tasks = records task.kind n;
+      semaphores = records semaphore.kind n;
+      mutexes = records mutex.kind n;
+      queues = runOf queueFirst queueCount n;
+      tick = entry n tickColumn 0;
+      depth = entry n depthColumn 0;
+      running = entry n runningColumn 0;
     }
-
-unfoldable pub taskCell : Task → List ℕ
-taskCell k = k .used ∷ k .base ∷ k .suspend ∷ (bytesOf 2 (k .quantum) ++ (bytesOf 2 (k .left) ++ (k .object ∷ k .marked ∷ k .outcome ∷ [])))
-
-abbrev pub dueCell : Task → List ℕ
-dueCell k = bytesOf 4 (k .due)
-
-unfoldable pub semaphoreIn : List ℕ → Semaphore
-semaphoreIn b = record { used = getD b 0 0; count = wordAt 4 1 b }
-
-unfoldable pub semaphoreCell : Semaphore → List ℕ
-semaphoreCell x = x .used ∷ bytesOf 4 (x .count)
-
-unfoldable pub mutexIn : List ℕ → Mutex
-mutexIn b = record { used = getD b 0 0; holder = getD b 1 0; nesting = getD b 2 0 }
-
-unfoldable pub mutexCell : Mutex → List ℕ
-mutexCell x = x .used ∷ x .holder ∷ x .nesting ∷ []
-
--- The fields of a task fit their bytes.
-pub record Fitting (k : Task) : Type 0 where
-  pub quantum : k .quantum < 65536
-  pub left : k .left < 65536
-  pub due : k .due < 4294967296
-
--- ---- the table that an image shows
-
-unfoldable pub taskAt : ℕ → List ℕ → Task
-taskAt i l = taskIn (getD l i 0) (getD l (stateAt i) 0) (wordAt 4 (dueAt i) l) (part (cellAt i) 10 l)
 
 unfoldable pub view : List ℕ → Table
-view l =
-    record {
-      tasks = tabulate 32 (λ i. taskAt i l);
-      semaphores = tabulate 16 (λ s. semaphoreIn (part (semaphoreAt s) 5 l));
-      mutexes = tabulate 16 (λ m. mutexIn (part (mutexAt m) 3 l));
-      queues = tabulate 33 (λ q. part (queueAt q) 32 l);
-      tick = wordAt 4 tickAt l;
-      depth = getD l depthAt 0;
-      running = getD l runningAt 0;
-    }
+view l = shown (columns layout l)
+
+-- The numbers of a table, column by column, and the image that shows it.
+unfoldable pub numbersOf : Table → List (List ℕ)
+numbersOf t =
+    columnsOf task.kind (t .tasks)
+    ++ (columnsOf semaphore.kind (t .semaphores)
+    ++ (columnsOf mutex.kind (t .mutexes)
+    ++ (t .queues
+    ++ ((t .tick ∷ []) ∷ (t .depth ∷ []) ∷ (t .running ∷ []) ∷ []))))
+
+unfoldable pub imageOf : Table → List ℕ
+imageOf t = image layout (numbersOf t)

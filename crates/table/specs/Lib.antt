@@ -1,8 +1,8 @@
-pub mod Parts
+pub mod kinds
 pub mod Image
-pub mod PartLaws
-pub mod Words
-pub mod Pieces
+pub mod Queues
+pub mod Numbers
 pub mod Shape
-pub mod Lossless
+pub mod records
 pub mod Written
+pub mod Settled

@@ -1,356 +1,205 @@
--- The image of a table: every sound table has one, and only one.
+-- The image of a table, and that bytes and table determine each other: each image of bytes shows one table, and each table whose fields
+-- fit their bytes, as those of a sound one do, is shown by one image.
 use mathlib.Core.Path.{_≡_, refl, sym, ap, subst, _∙_}
-use mathlib.Core.Bool.{Bool, true, false, cond}
-use mathlib.Core.List.{List, [], _∷_, map}
-use Prim.Native.Nat.{ℕ, zero, suc, _*_, _≤_, _<_, _/_, _%_, _^_}
-use native.Mathlib.Nat.{zero-add, pow-suc}
+use mathlib.Core.List.{List, [], _∷_, _++_}
+use Prim.Native.Nat.{ℕ, _+_, _≤_, _<_}
 use native.Mathlib.Omega.{arith}
-use lib.Dec.{eqb}
-use lib.ListN.{length, getD, length-append, length-map, List·getD-map}
-use Rattle.queue.specs.Order.{All, none, more}
-use Rattle.rules.specs.declared.Task.{Task}
-use Rattle.rules.specs.declared.Semaphore.{Semaphore}
-use Rattle.rules.specs.declared.Mutex.{Mutex}
-use Rattle.rules.specs.Sizes.{taskCount, semaphoreCount, mutexCount, waitsSemaphore, waitsMutex}
-use Rattle.rules.specs.Table.{Table, taskOf, semaphoreOf, mutexOf, queueOf, queueCount, noTask, noSemaphore, noMutex, works}
-use Rattle.rules.specs.Sound.{Each, Shaped, marksIn, TaskInRange, Sound}
-use Rattle.rules.specs.Family.{ofState, objectsIn}
-use Rattle.table.specs.Parts.{part, joined, wordAt, bytesOf}
-use Rattle.table.specs.Image.{Image, Fitting, stateAt, dueAt, cellAt, semaphoreAt, mutexAt, queueAt, tickAt, depthAt, runningAt, taskIn, taskCell, dueCell, taskAt, semaphoreIn, semaphoreCell, mutexIn, mutexCell, view}
-use Rattle.table.specs.Words.{word-back, task-back, semaphore-back, mutex-back}
-use Rattle.table.specs.Pieces.{Stands, here, past, stands, part-there, number-there, joined-long, piece-there, cells-long, cell-there, tabulate-back, all-at, all-by, all-append, all-joined, all-cells}
-use Rattle.table.specs.Shape.{view-task, view-semaphore, view-mutex, view-queue, view-shaped}
+use lib.ListN.{length, getD, drop, length-append}
+use Rattle.columns.specs.Columns.{columns, entry, Fits as Numbers}
+use Rattle.columns.specs.Image.{columns-image, image-long, image-bytes, entry-small}
+use Rattle.columns.specs.Rows.{Stands, here, past, last, columnsOf, columns-of-long, records-back}
+use Rattle.columns.specs.Runs.{same-run, run-back}
+use Rattle.columns.specs.Views.{same-none, same-next, same-one, same-all}
+use Rattle.columns.specs.Words.{bytes-drop, bytes-take}
+use Rattle.columns.specs.Whole.{records-fit, fits-none, fits-kind, fits-run, fits-one, fits-all}
+use Rattle.rules.specs.Sizes.{taskCount, semaphoreCount, mutexCount}
+use Rattle.rules.specs.Table.{Table, queueCount, taskOf, semaphoreOf, mutexOf, queueOf}
+use Rattle.rules.specs.Sound.{Each, Shaped, Sound}
+use Rattle.rules.specs.KindLaws.{all-at}
 use Rattle.rules.specs.Tape.{Bytes}
-use Rattle.table.specs.Lossless.{part-bytes, lossless}
+use Rattle.table.specs.kinds.Task as task
+use Rattle.table.specs.kinds.Semaphore as semaphore
+use Rattle.table.specs.kinds.Mutex as mutex
+use Rattle.table.specs.records.Task as task-record
+use Rattle.table.specs.records.Semaphore as semaphore-record
+use Rattle.table.specs.records.Mutex as mutex-record
+use Rattle.table.specs.Image.{slotCount, queueFirst, tickColumn, depthColumn, runningColumn, layout, Image, view, numbersOf, imageOf}
+use Rattle.table.specs.Queues.{queue-wide, queue-even, queueAt, view-queue}
+use Rattle.table.specs.Shape.{view-shaped}
 
-abbrev states : Table → List ℕ
-states t = map (λ k. k .state) (t .tasks)
+-- ---- every byte shows
 
--- The working priorities, the states, the due marks, the cells of the tasks, of the semaphores and of the mutexes, the queues, the
--- tick counter, and the lock depth with the running task.
-unfoldable pub imageOf : Table → List ℕ
-imageOf t =
-    joined
-    (works t
-    ∷ states t
-    ∷ joined (map dueCell (t .tasks))
-    ∷ joined (map taskCell (t .tasks))
-    ∷ joined (map semaphoreCell (t .semaphores))
-    ∷ joined (map mutexCell (t .mutexes))
-    ∷ joined (t .queues)
-    ∷ bytesOf 4 (t .tick)
-    ∷ (t .depth ∷ t .running ∷ [])
-    ∷ [])
+pub lossless : (l m : List ℕ) → Image l → Image m → Bytes l → Bytes m → view l ≡ view m → l ≡ m
+unfolding view
+lossless l m h k b d e =
+    same-all layout l m
+    (same-one layout l m runningColumn (ap (λ (t : Table). t .running) e) refl
+    (same-one layout l m depthColumn (ap (λ (t : Table). t .depth) e) refl
+    (same-one layout l m tickColumn (ap (λ (t : Table). t .tick) e) refl
+    (same-run layout l m queueFirst queueCount (ap (λ (t : Table). t .queues) e)
+    (same-next layout l m mutex.kind mutex-record.even (ap (λ (t : Table). t .mutexes) e)
+    (same-next layout l m semaphore.kind semaphore-record.even (ap (λ (t : Table). t .semaphores) e)
+    (same-next layout l m task.kind task-record.even (ap (λ (t : Table). t .tasks) e)
+    (same-none layout l m))))))))
+    b d h k
 
 -- ---- the tables whose fields fit their bytes
 
-pub record TaskFits (k : Task) : Type 0 where
-  -- quantum, left and due
-  pub words : Fitting k
-  pub used : k .used < 256
-  pub base : k .base < 256
-  pub work : k .work < 256
-  pub suspend : k .suspend < 256
-  pub state : k .state < 256
-  pub object : k .object < 256
-  pub marked : k .marked < 256
-  pub outcome : k .outcome < 256
-
-pub record SemaphoreFits (x : Semaphore) : Type 0 where
-  pub used : x .used < 256
-  pub count : x .count < 4294967296
-
-pub record MutexFits (x : Mutex) : Type 0 where
-  pub used : x .used < 256
-  pub holder : x .holder < 256
-  pub nesting : x .nesting < 256
-
 pub record Fits (t : Table) : Type 0 where
   pub shaped : Shaped t
-  pub tasks : Each taskCount (λ i. TaskFits (taskOf t i))
-  pub semaphores : Each semaphoreCount (λ s. SemaphoreFits (semaphoreOf t s))
-  pub mutexes : Each mutexCount (λ m. MutexFits (mutexOf t m))
+  pub tasks : Each taskCount (λ i. task-record.Small (taskOf t i))
+  pub semaphores : Each semaphoreCount (λ s. semaphore-record.Small (semaphoreOf t s))
+  pub mutexes : Each mutexCount (λ m. mutex-record.Small (mutexOf t m))
   pub queues : Each queueCount (λ q. Bytes (queueOf t q))
   pub tick : t .tick < 4294967296
   pub depth : t .depth < 256
   pub running : t .running < 256
 
+-- The table that an image of bytes shows fits.
+pub view-fits : (l : List ℕ) → Image l → Bytes l → Fits (view l)
+unfolding view task.made semaphore.made mutex.made
+view-fits l h b =
+    record {
+      shaped = view-shaped l h;
+      tasks = λ i p. task-record.small _ (records-fit task.kind layout l b i p);
+      semaphores = λ i p. semaphore-record.small _ (records-fit semaphore.kind layout l b i p);
+      mutexes = λ i p. mutex-record.small _ (records-fit mutex.kind layout l b i p);
+      queues = λ q p. subst Bytes (sym (view-queue l h q p)) (bytes-take slotCount (drop (queueAt q) l) (bytes-drop (queueAt q) l b));
+      tick = entry-small layout l b tickColumn 0;
+      depth = entry-small layout l b depthColumn 0;
+      running = entry-small layout l b runningColumn 0;
+    }
+
 -- ---- a sound table fits
-
-cond-most : {n x y : ℕ} (b : Bool) → x ≤ n → y ≤ n → cond b x y ≤ n
-cond-most true p q = p
-cond-most false p q = q
-
-few-objects : (state : ℕ) → objectsIn state ≤ 16
-unfolding ofState
-few-objects state = cond-most (eqb state waitsSemaphore) (omega arith) (cond-most (eqb state waitsMutex) (omega arith) (omega arith))
-
-few-marks : (marked : ℕ) → marksIn marked ≤ 4294967296
-unfolding marksIn
-few-marks marked = cond-most (eqb marked 0) (omega arith) (omega arith)
-
-task-fits : (k : Task) → TaskInRange k → TaskFits k
-task-fits k r = omega (arith, few-objects (k .state), few-marks (k .marked))
 
 pub sound-fits : {t : Table} → Sound t → Fits t
 sound-fits {t} s =
     record {
       shaped = s .settled .queued .shaped;
-      tasks = λ i h. task-fits (taskOf t i) (s .settled .tasks i h .inRange);
-      semaphores = λ i h. omega (arith, s .settled .objects .semaphores i h);
-      mutexes = λ i h. omega (arith, s .settled .objects .mutexes i h);
+      tasks = λ i h. task-record.fits (taskOf t i) (s .settled .tasks i h .inRange);
+      semaphores = λ i h. semaphore-record.fits (semaphoreOf t i) (s .settled .objects .semaphores i h);
+      mutexes = λ i h. mutex-record.fits (mutexOf t i) (s .settled .objects .mutexes i h);
       queues = λ q h j. omega (arith, all-at {P = λ v. v ≤ 32} (omega arith) (s .settled .queued .nothingElse q h) j);
       tick = s .settled .tick;
       depth = omega (arith, s .settled .depth);
       running = omega (arith, s .runs .range);
     }
 
--- ---- the table that an image of bytes shows fits
-
-word-small : (w a : ℕ) (l : List ℕ) → Bytes l → wordAt w a l < 256 ^ w
-unfolding wordAt
-word-small zero a l h = omega arith
-word-small (suc w) a l h = rw (pow-suc 256 w) (omega (arith, h a, word-small w (suc a) l h))
-
-module _ (b : List ℕ) (h : Bytes b) where
-  task-in-fits : (work state due : ℕ) → work < 256 → state < 256 → due < 4294967296 → TaskFits (taskIn work state due b)
-  unfolding taskIn
-  task-in-fits work state due p q g =
-      record {
-        words = record { quantum = word-small 2 3 b h; left = word-small 2 5 b h; due = g };
-        used = h 0;
-        base = h 1;
-        work = p;
-        suspend = h 2;
-        state = q;
-        object = h 7;
-        marked = h 8;
-        outcome = h 9;
-      }
-
-  semaphore-in-fits : SemaphoreFits (semaphoreIn b)
-  unfolding semaphoreIn
-  semaphore-in-fits = record { used = h 0; count = word-small 4 1 b h }
-
-  mutex-in-fits : MutexFits (mutexIn b)
-  unfolding mutexIn
-  mutex-in-fits = record { used = h 0; holder = h 1; nesting = h 2 }
-
-pub view-fits : (l : List ℕ) → Image l → Bytes l → Fits (view l)
-unfolding view taskAt
-view-fits l hl h =
-    record {
-      shaped = view-shaped l hl;
-      tasks = λ i p. subst TaskFits (sym (view-task l i p)) (task-in-fits (part (cellAt i) 10 l) (part-bytes (cellAt i) 10 l h) _ _ _ (h i) (h (stateAt i)) (word-small 4 (dueAt i) l h));
-      semaphores = λ s p. subst SemaphoreFits (sym (view-semaphore l s p)) (semaphore-in-fits (part (semaphoreAt s) 5 l) (part-bytes (semaphoreAt s) 5 l h));
-      mutexes = λ m p. subst MutexFits (sym (view-mutex l m p)) (mutex-in-fits (part (mutexAt m) 3 l) (part-bytes (mutexAt m) 3 l h));
-      queues = λ q p. subst Bytes (sym (view-queue l q p)) (part-bytes (queueAt q) 32 l h);
-      tick = word-small 4 tickAt l h;
-      depth = h depthAt;
-      running = h runningAt;
-    }
-
--- ---- the lengths and the bytes of what an image is joined of
-
-bytes-long : (w n : ℕ) → length (bytesOf w n) ≡ w
-unfolding bytesOf
-bytes-long zero n = refl
-bytes-long (suc w) n = ap suc (bytes-long w (n / 256))
-
-due-long : (k : Task) → length (dueCell k) ≡ 4
-due-long k = bytes-long 4 (k .due)
-
-task-long : (k : Task) → length (taskCell k) ≡ 10
-unfolding taskCell bytesOf
-task-long k = refl
-
-semaphore-long : (x : Semaphore) → length (semaphoreCell x) ≡ 5
-unfolding semaphoreCell bytesOf
-semaphore-long x = refl
-
-mutex-long : (x : Mutex) → length (mutexCell x) ≡ 3
-unfolding mutexCell
-mutex-long x = refl
-
-abbrev Byte : ℕ → Type 0
-Byte v = v < 256
-
-bytes-small : (w n : ℕ) → All Byte (bytesOf w n)
-unfolding bytesOf
-bytes-small zero n = none
-bytes-small (suc w) n = more {x = n % 256} (omega arith) (bytes-small w (n / 256))
-
-task-small : (k : Task) → TaskFits k → All Byte (taskCell k)
-unfolding taskCell
-task-small k f =
-    more (f .used) (more (f .base) (more (f .suspend)
-    (all-append (bytes-small 2 (k .quantum)) (all-append (bytes-small 2 (k .left))
-    (more (f .object) (more (f .marked) (more (f .outcome) none)))))))
-
-semaphore-small : (x : Semaphore) → SemaphoreFits x → All Byte (semaphoreCell x)
-unfolding semaphoreCell
-semaphore-small x f = more (f .used) (bytes-small 4 (x .count))
-
-mutex-small : (x : Mutex) → MutexFits x → All Byte (mutexCell x)
-unfolding mutexCell
-mutex-small x f = more (f .used) (more (f .holder) (more (f .nesting) none))
-
 -- ---- the image of a table that fits: it has the right length, shows the table, and holds bytes
 
 module _ {t : Table} (f : Fits t) where
-  works-long : length (works t) ≡ 32
-  unfolding works
-  works-long = length-map (t .tasks) (λ k. k .work) ∙ f .shaped .tasks
+  abbrev n : List (List ℕ)
+  n = numbersOf t
 
-  states-long : length (states t) ≡ 32
-  states-long = length-map (t .tasks) (λ k. k .state) ∙ f .shaped .tasks
+  -- What is joined: the columns of each kind, the queues and the single numbers; and all that stands behind each.
+  abbrev ts : List (List ℕ)
+  ts = columnsOf task.kind (t .tasks)
 
-  dues-long : length (joined (map dueCell (t .tasks))) ≡ 128
-  dues-long = cells-long dueCell 4 noTask due-long (t .tasks) ∙ ap (λ (z : ℕ). z * 4) (f .shaped .tasks)
+  abbrev ss : List (List ℕ)
+  ss = columnsOf semaphore.kind (t .semaphores)
 
-  tasks-long : length (joined (map taskCell (t .tasks))) ≡ 320
-  tasks-long = cells-long taskCell 10 noTask task-long (t .tasks) ∙ ap (λ (z : ℕ). z * 10) (f .shaped .tasks)
+  abbrev ms : List (List ℕ)
+  ms = columnsOf mutex.kind (t .mutexes)
 
-  semaphores-long : length (joined (map semaphoreCell (t .semaphores))) ≡ 80
-  semaphores-long = cells-long semaphoreCell 5 noSemaphore semaphore-long (t .semaphores) ∙ ap (λ (z : ℕ). z * 5) (f .shaped .semaphores)
+  abbrev ns : List (List ℕ)
+  ns = (t .tick ∷ []) ∷ (t .depth ∷ []) ∷ (t .running ∷ []) ∷ []
 
-  mutexes-long : length (joined (map mutexCell (t .mutexes))) ≡ 48
-  mutexes-long = cells-long mutexCell 3 noMutex mutex-long (t .mutexes) ∙ ap (λ (z : ℕ). z * 3) (f .shaped .mutexes)
+  abbrev past-ms : List (List ℕ)
+  past-ms = t .queues ++ ns
 
-  equal-queues : (q : ℕ) → q < length (t .queues) → length (queueOf t q) ≡ 32
-  equal-queues q h = f .shaped .slots q (omega arith)
+  abbrev past-ss : List (List ℕ)
+  past-ss = ms ++ past-ms
 
-  queues-long : length (joined (t .queues)) ≡ 1056
-  queues-long = joined-long 32 [] (t .queues) equal-queues ∙ ap (λ (z : ℕ). z * 32) (f .shaped .queues)
+  abbrev past-ts : List (List ℕ)
+  past-ts = ss ++ past-ss
+
+  ts-long : length ts ≡ task.kind .wide
+  ts-long = columns-of-long task.kind (t .tasks)
+
+  ss-long : length ss ≡ semaphore.kind .wide
+  ss-long = columns-of-long semaphore.kind (t .semaphores)
+
+  ms-long : length ms ≡ mutex.kind .wide
+  ms-long = columns-of-long mutex.kind (t .mutexes)
+
+  at-ts : Stands (task.kind .first) ts n
+  unfolding numbersOf
+  at-ts = here ts past-ts
+
+  at-ss : Stands (semaphore.kind .first) ss n
+  unfolding numbersOf
+  at-ss = past 0 (task.kind .wide) ts ss past-ts ts-long (here ss past-ss)
+
+  at-ms : Stands (mutex.kind .first) ms n
+  unfolding numbersOf
+  at-ms = past (semaphore.kind .wide) (task.kind .wide) ts ms past-ts ts-long (past 0 (semaphore.kind .wide) ss ms past-ss ss-long (here ms past-ms))
+
+  behind : (a : ℕ) (p : List (List ℕ)) → Stands a p past-ms → Stands (task.kind .wide + (semaphore.kind .wide + (mutex.kind .wide + a))) p n
+  unfolding numbersOf
+  behind a p s =
+      past (semaphore.kind .wide + (mutex.kind .wide + a)) (task.kind .wide) ts p past-ts ts-long
+      (past (mutex.kind .wide + a) (semaphore.kind .wide) ss p past-ss ss-long (past a (mutex.kind .wide) ms p past-ms ms-long s))
+
+  at-qs : Stands queueFirst (t .queues) n
+  at-qs = behind 0 (t .queues) (here (t .queues) ns)
+
+  at-ns : Stands tickColumn ns n
+  at-ns = behind queueCount ns (past 0 queueCount (t .queues) ns ns (f .shaped .queues) (last ns))
+
+  long : length n ≡ length layout
+  unfolding numbersOf
+  long = simp length-append (omega (arith, ts-long, ss-long, ms-long, f .shaped .queues))
+
+  numbers-fit : Numbers layout n
+  unfolding task.made semaphore.made mutex.made
+  numbers-fit =
+      fits-all layout n long
+      (fits-one layout n runningColumn (t .running) (at-ns 2 (omega arith)) refl (f .running)
+      (fits-one layout n depthColumn (t .depth) (at-ns 1 (omega arith)) refl (f .depth)
+      (fits-one layout n tickColumn (t .tick) (at-ns 0 (omega arith)) refl (f .tick)
+      (fits-run layout n queueFirst queueCount slotCount queue-wide queue-even (t .queues) (f .shaped .queues) at-qs (f .shaped .slots) (f .queues)
+      (fits-kind layout n mutex.kind mutex-record.even (t .mutexes) at-ms (λ i p. mutex-record.small-fits _ (f .mutexes i p))
+      (fits-kind layout n semaphore.kind semaphore-record.even (t .semaphores) at-ss (λ i p. semaphore-record.small-fits _ (f .semaphores i p))
+      (fits-kind layout n task.kind task-record.even (t .tasks) at-ts (λ i p. task-record.small-fits _ (f .tasks i p))
+      (fits-none layout n))))))))
 
   pub image-length : Image (imageOf t)
-  unfolding imageOf joined
-  image-length = simp length-append (omega (arith, works-long, states-long, dues-long, tasks-long, semaphores-long, mutexes-long, queues-long, bytes-long 4 (t .tick)))
-
-  -- ---- where things stand in it
-
-  at-works : Stands 0 (works t) (imageOf t)
   unfolding imageOf
-  at-works = stands here
-
-  at-states : Stands 32 (states t) (imageOf t)
-  unfolding imageOf
-  at-states = stands (past works-long here)
-
-  at-dues : Stands 64 (joined (map dueCell (t .tasks))) (imageOf t)
-  unfolding imageOf
-  at-dues = stands (past works-long (past states-long here))
-
-  at-tasks : Stands 192 (joined (map taskCell (t .tasks))) (imageOf t)
-  unfolding imageOf
-  at-tasks = stands (past works-long (past states-long (past dues-long here)))
-
-  at-semaphores : Stands 512 (joined (map semaphoreCell (t .semaphores))) (imageOf t)
-  unfolding imageOf
-  at-semaphores = stands (past works-long (past states-long (past dues-long (past tasks-long here))))
-
-  at-mutexes : Stands 592 (joined (map mutexCell (t .mutexes))) (imageOf t)
-  unfolding imageOf
-  at-mutexes = stands (past works-long (past states-long (past dues-long (past tasks-long (past semaphores-long here)))))
-
-  at-queues : Stands 640 (joined (t .queues)) (imageOf t)
-  unfolding imageOf
-  at-queues = stands (past works-long (past states-long (past dues-long (past tasks-long (past semaphores-long (past mutexes-long here))))))
-
-  at-tick : Stands tickAt (bytesOf 4 (t .tick)) (imageOf t)
-  unfolding imageOf
-  at-tick = stands (past works-long (past states-long (past dues-long (past tasks-long (past semaphores-long (past mutexes-long (past queues-long here)))))))
-
-  at-depth : Stands depthAt (t .depth ∷ t .running ∷ []) (imageOf t)
-  unfolding imageOf
-  at-depth = stands (past works-long (past states-long (past dues-long (past tasks-long (past semaphores-long (past mutexes-long (past queues-long (past (bytes-long 4 (t .tick)) here))))))))
-
-  -- ---- what it shows
-
-  work-shown : (i : ℕ) → i < 32 → getD (imageOf t) i 0 ≡ taskOf t i .work
-  unfolding works
-  work-shown i h =
-      ap (λ (z : ℕ). getD (imageOf t) z 0) (sym (zero-add i))
-      ∙ number-there at-works i (omega (arith, works-long))
-      ∙ List·getD-map (λ k. k .work) (t .tasks) i noTask
-
-  state-shown : (i : ℕ) → i < 32 → getD (imageOf t) (stateAt i) 0 ≡ taskOf t i .state
-  state-shown i h = number-there at-states i (omega (arith, states-long)) ∙ List·getD-map (λ k. k .state) (t .tasks) i noTask
-
-  task-shown : (i : ℕ) → i < 32 → taskAt i (imageOf t) ≡ taskOf t i
-  unfolding taskAt
-  task-shown i h =
-      rw (
-        work-shown i h,
-        state-shown i h,
-        word-back 4 (taskOf t i .due) (dueAt i) (imageOf t) (f .tasks i h .words .due) (cell-there dueCell 4 noTask due-long (t .tasks) at-dues i (omega arith)),
-        cell-there taskCell 10 noTask task-long (t .tasks) at-tasks i (omega arith),
-      )
-      (task-back (taskOf t i) (f .tasks i h .words))
-
-  semaphore-shown : (s : ℕ) → s < 16 → semaphoreIn (part (semaphoreAt s) 5 (imageOf t)) ≡ semaphoreOf t s
-  semaphore-shown s h =
-      ap semaphoreIn (cell-there semaphoreCell 5 noSemaphore semaphore-long (t .semaphores) at-semaphores s (omega arith))
-      ∙ semaphore-back (semaphoreOf t s) (f .semaphores s h .count)
-
-  mutex-shown : (m : ℕ) → m < 16 → mutexIn (part (mutexAt m) 3 (imageOf t)) ≡ mutexOf t m
-  mutex-shown m h =
-      ap mutexIn (cell-there mutexCell 3 noMutex mutex-long (t .mutexes) at-mutexes m (omega arith))
-      ∙ mutex-back (mutexOf t m)
-
-  queue-shown : (q : ℕ) → q < 33 → part (queueAt q) 32 (imageOf t) ≡ queueOf t q
-  queue-shown q h = piece-there 32 [] (t .queues) equal-queues at-queues q (omega arith)
+  image-length = image-long numbers-fit
 
   pub image-view : view (imageOf t) ≡ t
-  unfolding view
-  image-view = λ k.
+  unfolding view imageOf entry
+  image-view =
+      rw (columns-image numbers-fit)
+      (λ x.
       record {
-        tasks = tabulate-back 32 _ (t .tasks) noTask (f .shaped .tasks) task-shown k;
-        semaphores = tabulate-back 16 _ (t .semaphores) noSemaphore (f .shaped .semaphores) semaphore-shown k;
-        mutexes = tabulate-back 16 _ (t .mutexes) noMutex (f .shaped .mutexes) mutex-shown k;
-        queues = tabulate-back 33 _ (t .queues) [] (f .shaped .queues) queue-shown k;
-        tick = word-back 4 (t .tick) tickAt (imageOf t) (f .tick) (part-there at-tick (bytes-long 4 (t .tick))) k;
-        depth = number-there at-depth 0 (omega arith) k;
-        running = number-there at-depth 1 (omega arith) k;
-      }
+        tasks = records-back task.kind n (t .tasks) at-ts (f .shaped .tasks) x;
+        semaphores = records-back semaphore.kind n (t .semaphores) at-ss (f .shaped .semaphores) x;
+        mutexes = records-back mutex.kind n (t .mutexes) at-ms (f .shaped .mutexes) x;
+        queues = run-back queueFirst queueCount n (t .queues) at-qs (f .shaped .queues) x;
+        tick = ap (λ (c : List ℕ). getD c 0 0) (at-ns 0 (omega arith)) x;
+        depth = ap (λ (c : List ℕ). getD c 0 0) (at-ns 1 (omega arith)) x;
+        running = ap (λ (c : List ℕ). getD c 0 0) (at-ns 2 (omega arith)) x;
+      })
 
-  -- ---- its bytes
-
-  works-small : All Byte (works t)
-  unfolding works
-  works-small = all-by (works t) (λ i h. let p : i < 32 = omega (arith, works-long) in subst Byte (sym (List·getD-map (λ k. k .work) (t .tasks) i noTask)) (f .tasks i p .work))
-
-  states-small : All Byte (states t)
-  states-small = all-by (states t) (λ i h. let p : i < 32 = omega (arith, states-long) in subst Byte (sym (List·getD-map (λ k. k .state) (t .tasks) i noTask)) (f .tasks i p .state))
-
-  pub image-bytes : Bytes (imageOf t)
-  unfolding imageOf joined
-  image-bytes =
-      all-at (omega arith)
-      (all-append works-small
-      (all-append states-small
-      (all-append (all-cells dueCell noTask (t .tasks) (λ i h. bytes-small 4 (taskOf t i .due)))
-      (all-append (all-cells taskCell noTask (t .tasks) (λ i h. task-small (taskOf t i) (f .tasks i (omega arith))))
-      (all-append (all-cells semaphoreCell noSemaphore (t .semaphores) (λ i h. semaphore-small (semaphoreOf t i) (f .semaphores i (omega arith))))
-      (all-append (all-cells mutexCell noMutex (t .mutexes) (λ i h. mutex-small (mutexOf t i) (f .mutexes i (omega arith))))
-      (all-append (all-joined [] (t .queues) (λ q h. all-by (queueOf t q) (λ j p. f .queues q (omega arith) j)))
-      (all-append (bytes-small 4 (t .tick))
-      (more (f .depth) (more (f .running) none))))))))))
+pub image-small : (t : Table) → Bytes (imageOf t)
+unfolding imageOf
+image-small t = image-bytes layout (numbersOf t)
 
 -- ---- one image
 
 -- The image of what an image shows is that image.
 pub view-image : (l : List ℕ) → Image l → Bytes l → imageOf (view l) ≡ l
-view-image l hl h =
-    let f = view-fits l hl h in
-    lossless (imageOf (view l)) l (image-length f) hl (image-bytes f) h (image-view f)
+view-image l h b =
+    let f = view-fits l h b in
+    lossless (imageOf (view l)) l (image-length f) h (image-small (view l)) b (image-view f)
 
 -- What shows a sound table is its image.
 pub one-image : {t : Table} → Sound t → (l : List ℕ) → Image l → Bytes l → view l ≡ t → l ≡ imageOf t
-one-image {t} s l hl h e =
+one-image {t} s l h b e =
     let f = sound-fits s in
-    lossless l (imageOf t) hl (image-length f) h (image-bytes f) (e ∙ sym (image-view f))
+    lossless l (imageOf t) h (image-length f) b (image-small t) (e ∙ sym (image-view f))
 
 -- Each sound table has an image, and only one.
 pub exactly-one : {t : Table} → Sound t → (Image (imageOf t) × Bytes (imageOf t) × (view (imageOf t) ≡ t)) × ((l : List ℕ) → Image l → Bytes l → view l ≡ t → l ≡ imageOf t)
-exactly-one s = ((image-length (sound-fits s), image-bytes (sound-fits s), image-view (sound-fits s)), one-image s)
+exactly-one {t} s = ((image-length (sound-fits s), image-small t, image-view (sound-fits s)), one-image s)

@@ -1,3 +1,7 @@
 // The kernel's table in the bytes that the caller lends, changed in place. docs/IMAGE.md has the layout.
-pub mod cells;
+pub mod layout;
 pub mod moves;
+pub mod mutexes;
+pub mod numbers;
+pub mod semaphores;
+pub mod tasks;

@@ -1,91 +1,120 @@
-// How tasks change their places: `put` is the one door, in general and in four cases that need less; `rotate` is the one other move; and
-// who runs.
+// How tasks change their places. A service stores the fields that it changes and then moves the task: `settle` where its place may be
+// another, `leave_queue` or `join_queue` where it is known to stand nowhere now or before; `Settled` says when that is the `put` of the
+// rules. A record is stored whole where a task is created or deleted. `rotate` is the one other move. And who runs.
 ghost use mathlib.Core.Path.{_≡_};
 ghost use Prim.Native.Nat.{_≤_, _<_};
 ghost use lib.ListN.{getD};
 ghost use Rattle.queue.specs.Slots.{placeBehind};
-ghost use Rattle.rules.specs.Table.{taskOf, queueOf, works, isAble, firstIn};
+ghost use Rattle.rules.specs.Sizes.{taskCount};
+ghost use Rattle.rules.specs.Table.{queueCount, taskOf, queueOf, works, isAble, firstIn, noTask};
 ghost use Rattle.rules.specs.Family.{placeOf};
-ghost use Rattle.rules.specs.Move.{leave, join, stays, put, putWork, rotate, chosen};
-ghost use Rattle.table.specs.Image.{Image, view};
-use crate::cells;
+ghost use Rattle.rules.specs.Move.{leave, join, put, putWork, rotate, chosen};
+ghost use Rattle.table.specs.Image.{Image, slotCount, view};
+ghost use Rattle.table.specs.Settled.{settled};
+use crate::layout;
+use crate::numbers;
+use crate::tasks;
 
-pub fn is_able(k: rules::Task) -> bool
-    ensures { λ r. ⌜ r ≡ isAble k ⌝ }
+// Whether task i is able.
+pub fn is_able(s: &[u8], i: usize) -> bool
+    requires { ⌜ (i < taskCount) × Image (now s) ⌝ }
+    ensures { λ r. ⌜ r ≡ isAble (taskOf (view (now (s .entry))) i) ⌝ }
 {
-    (k.used == 1) & ((k.state == 0) & (k.suspend == 0))
+    let used = tasks::get_used(s, i);
+    let state = tasks::get_state(s, i);
+    let suspend = tasks::get_suspend(s, i);
+    (used == 1) & ((state == 0) & (suspend == 0))
 }
 
-// The queue where a task stands: 0 that of the able tasks, then those of the semaphores and of the mutexes; 33 or more for none.
-pub fn place_of(k: rules::Task) -> usize
-    ensures { λ r. ⌜ r ≡ placeOf k ⌝ }
+// The queue where task i stands: 0 that of the able tasks, then those of the semaphores and of the mutexes; QUEUES or more for none.
+pub fn place_of(s: &[u8], i: usize) -> usize
+    requires { ⌜ (i < taskCount) × Image (now s) ⌝ }
+    ensures { λ r. ⌜ r ≡ placeOf (taskOf (view (now (s .entry))) i) ⌝ }
 {
-    if is_able(k) {
+    if is_able(s, i) {
         return 0;
     }
-    if k.state == 2 {
-        return 1 + k.object as usize;
+    let state = tasks::get_state(s, i);
+    let object = tasks::get_object(s, i);
+    if state == 2 {
+        return layout::SEMAPHORE_QUEUE + object as usize;
     }
-    if k.state == 3 {
-        return 17 + k.object as usize;
+    if state == 3 {
+        return layout::MUTEX_QUEUE + object as usize;
     }
-    33
+    layout::QUEUES
 }
 
-fn leave_queue(s: &mut [u8], q: usize, i: usize)
-    requires { ⌜ (i < 32) × Image (now s) ⌝ }
+// Task i leaves queue q, if there is such a queue.
+pub fn leave_queue(s: &mut [u8], q: usize, i: usize)
+    requires { ⌜ (i < taskCount) × Image (now s) ⌝ }
     ensures { λ _. ⌜ view (now (s .exit)) ≡ leave q i (view (now (s .entry))) ⌝ }
 {
-    if 33 <= q {
+    if layout::QUEUES <= q {
         return;
     }
-    let a = 640 + q * 32;
-    let e = a + 32;
+    let a = layout::QUEUE + layout::SLOTS * q;
+    let e = a + layout::SLOTS;
     queue::remove(&mut s[a..e], i as u8);
 }
 
 // Where task i goes in queue q: the queue and the keys are two parts of one slice.
 fn place_in(s: &[u8], q: usize, i: usize) -> usize
-    requires { ⌜ (i < 32) × (q < 33) × Image (now s) ⌝ }
+    requires { ⌜ (i < taskCount) × (q < queueCount) × Image (now s) ⌝ }
     ensures { λ r. ⌜ r ≡ placeBehind (works (view (now (s .entry)))) (getD (works (view (now (s .entry)))) i 0) (queueOf (view (now (s .entry))) q) ⌝ }
 {
-    let a = 640 + q * 32;
-    let e = a + 32;
-    let key = s[i];
-    queue::place_behind(&s[a..e], &s[..32], key)
+    let a = layout::QUEUE + layout::SLOTS * q;
+    let e = a + layout::SLOTS;
+    let key = tasks::get_work(s, i);
+    queue::place_behind(
+        &s[a..e],
+        &s[layout::WORK..layout::WORK + layout::TASKS],
+        key,
+    )
 }
 
-fn join_queue(s: &mut [u8], q: usize, i: usize)
-    requires { ⌜ (i < 32) × Image (now s) ⌝ }
+// Task i goes behind its equals in queue q, if there is such a queue.
+pub fn join_queue(s: &mut [u8], q: usize, i: usize)
+    requires { ⌜ (i < taskCount) × Image (now s) ⌝ }
     ensures { λ _. ⌜ view (now (s .exit)) ≡ join q i (view (now (s .entry))) ⌝ }
 {
-    if 33 <= q {
+    if layout::QUEUES <= q {
         return;
     }
-    let a = 640 + q * 32;
-    let e = a + 32;
+    let a = layout::QUEUE + layout::SLOTS * q;
+    let e = a + layout::SLOTS;
     let at = place_in(s, q, i);
     queue::open(&mut s[a..e], at, i as u8 + 1);
 }
 
-// Whether a task keeps its place in a queue.
-fn stays_put(old: rules::Task, new: rules::Task) -> bool
-    ensures { λ r. ⌜ r ≡ stays old new ⌝ }
+// Task i, whose fields were stored, but for its working priority, stood in queue q: where its place is another now, it leaves q and
+// goes behind its equals in its own.
+pub fn settle(s: &mut [u8], i: usize, q: usize)
+    requires { ⌜ (i < taskCount) × Image (now s) ⌝ }
+    ensures { λ _. ⌜ view (now (s .exit)) ≡ settled q i (view (now (s .entry))) ⌝ }
 {
-    (place_of(old) == place_of(new)) & (old.work == new.work)
+    let new = place_of(s, i);
+    if q == new {
+        return;
+    }
+    leave_queue(s, q, i);
+    join_queue(s, new, i);
 }
 
 fn put_in(s: &mut [u8], i: usize, k: rules::Task)
-    requires { ⌜ (i < 32) × Image (now s) ⌝ }
+    requires { ⌜ (i < taskCount) × Image (now s) ⌝ }
     ensures { λ _. ⌜ view (now (s .exit)) ≡ put i k (view (now (s .entry))) ⌝ }
 {
-    let old = cells::get_task(s, i);
-    cells::set_task(s, i, k);
-    if stays_put(old, k) {
+    let q = place_of(s, i);
+    let work = tasks::get_work(s, i);
+    tasks::store(s, i, k);
+    if work == k.work {
+        settle(s, i, q);
         return;
     }
-    leave_queue(s, place_of(old), i);
-    join_queue(s, place_of(k), i);
+    let new = place_of(s, i);
+    leave_queue(s, q, i);
+    join_queue(s, new, i);
 }
 
 // Task i becomes k. Where its place or its working priority changes, it leaves its queue and goes behind its equals in the other.
@@ -93,71 +122,44 @@ pub fn put_task(s: &mut [u8], i: usize, k: rules::Task)
     requires { ⌜ Image (now s) ⌝ }
     ensures { λ _. ⌜ view (now (s .exit)) ≡ put i k (view (now (s .entry))) ⌝ }
 {
-    if 32 <= i {
+    if layout::TASKS <= i {
         return;
     }
     put_in(s, i, k);
 }
 
-// The same where place and working priority stay: no queue is touched.
-pub fn keep_task(s: &mut [u8], i: usize, k: rules::Task)
-    requires { ⌜ (placeOf (taskOf (view (now s)) i) ≡ placeOf k) × (taskOf (view (now s)) i .work ≡ k .work) × Image (now s) ⌝ }
-    ensures { λ _. ⌜ view (now (s .exit)) ≡ put i k (view (now (s .entry))) ⌝ }
+// Task i is free again: it leaves its queue, and its record is that of a free number.
+pub fn clear_task(s: &mut [u8], i: usize)
+    requires { ⌜ (i < taskCount) × Image (now s) ⌝ }
+    ensures { λ _. ⌜ view (now (s .exit)) ≡ put i noTask (view (now (s .entry))) ⌝ }
 {
-    if 32 <= i {
-        return;
-    }
-    cells::set_task(s, i, k);
+    let q = place_of(s, i);
+    tasks::store(s, i, tasks::no_task());
+    leave_queue(s, q, i);
 }
 
-// The same where k stands in no queue: the task leaves its own.
-pub fn take_out(s: &mut [u8], i: usize, k: rules::Task)
-    requires { ⌜ (33 ≤ placeOf k) × Image (now s) ⌝ }
-    ensures { λ _. ⌜ view (now (s .exit)) ≡ put i k (view (now (s .entry))) ⌝ }
-{
-    if 32 <= i {
-        return;
-    }
-    let old = cells::get_task(s, i);
-    cells::set_task(s, i, k);
-    leave_queue(s, place_of(old), i);
-}
-
-// The same where the task stands in no queue: it goes behind its equals in that of k.
-pub fn bring_in(s: &mut [u8], i: usize, k: rules::Task)
-    requires { ⌜ (33 ≤ placeOf (taskOf (view (now s)) i)) × Image (now s) ⌝ }
-    ensures { λ _. ⌜ view (now (s .exit)) ≡ put i k (view (now (s .entry))) ⌝ }
-{
-    if 32 <= i {
-        return;
-    }
-    cells::set_task(s, i, k);
-    join_queue(s, place_of(k), i);
-}
-
-// The same where the working priority alone changes, to p: no other field is read that does not tell the place.
+// The working priority of task i becomes p; where that is another, the task goes behind its equals.
 pub fn rework_task(s: &mut [u8], i: usize, p: u8)
-    requires { ⌜ (i < 32) × Image (now s) ⌝ }
+    requires { ⌜ (i < taskCount) × Image (now s) ⌝ }
     ensures { λ _. ⌜ view (now (s .exit)) ≡ putWork (view (now (s .entry))) i p ⌝ }
 {
-    if cells::get_work(s, i) == p {
+    if tasks::get_work(s, i) == p {
         return;
     }
-    let q = place_of(cells::get_task(s, i));
-    cells::set_work(s, i, p);
+    let q = place_of(s, i);
+    tasks::set_work(s, i, p);
     leave_queue(s, q, i);
     join_queue(s, q, i);
 }
 
 fn rotate_in(s: &mut [u8], i: usize)
-    requires { ⌜ (i < 32) × Image (now s) ⌝ }
+    requires { ⌜ (i < taskCount) × Image (now s) ⌝ }
     ensures { λ _. ⌜ view (now (s .exit)) ≡ rotate i (view (now (s .entry))) ⌝ }
 {
-    let mut k = cells::get_task(s, i);
-    k.left = k.quantum;
-    cells::set_task(s, i, k);
-    leave_queue(s, 0, i);
-    join_queue(s, 0, i);
+    let quantum = tasks::get_quantum(s, i);
+    tasks::set_left(s, i, quantum);
+    leave_queue(s, layout::ABLE_QUEUE, i);
+    join_queue(s, layout::ABLE_QUEUE, i);
 }
 
 // The able task i goes behind its equals, and has its whole quantum again.
@@ -165,7 +167,7 @@ pub fn rotate_task(s: &mut [u8], i: usize)
     requires { ⌜ Image (now s) ⌝ }
     ensures { λ _. ⌜ view (now (s .exit)) ≡ rotate i (view (now (s .entry))) ⌝ }
 {
-    if 32 <= i {
+    if layout::TASKS <= i {
         return;
     }
     rotate_in(s, i);
@@ -176,18 +178,26 @@ pub fn first_in(s: &[u8], q: usize) -> u8
     requires { ⌜ Image (now s) ⌝ }
     ensures { λ r. ⌜ r ≡ firstIn q (view (now (s .entry))) ⌝ }
 {
-    if 33 <= q {
+    if layout::QUEUES <= q {
         return 0;
     }
-    s[640 + q * 32]
+    slot_in(s, q, 0)
 }
 
-// The task behind it, in the same way.
+// Slot j of queue q, in the same way.
+pub fn slot_in(s: &[u8], q: usize, j: usize) -> u8
+    requires { ⌜ (q < queueCount) × (j < slotCount) × Image (now s) ⌝ }
+    ensures { λ r. ⌜ r ≡ getD (queueOf (view (now (s .entry))) q) j 0 ⌝ }
+{
+    s[layout::QUEUE + layout::SLOTS * q + j]
+}
+
+// The second of queue q, in the same way.
 pub fn second_in(s: &[u8], q: usize) -> u8
-    requires { ⌜ (q < 33) × Image (now s) ⌝ }
+    requires { ⌜ (q < queueCount) × Image (now s) ⌝ }
     ensures { λ r. ⌜ r ≡ getD (queueOf (view (now (s .entry))) q) 1 0 ⌝ }
 {
-    s[641 + q * 32]
+    slot_in(s, q, 1)
 }
 
 // At depth 0 the first able task runs.
@@ -195,9 +205,9 @@ pub fn choose(s: &mut [u8])
     requires { ⌜ Image (now s) ⌝ }
     ensures { λ _. ⌜ view (now (s .exit)) ≡ chosen (view (now (s .entry))) ⌝ }
 {
-    let d = cells::get_depth(s);
+    let d = numbers::get_depth(s);
     if d == 0 {
-        let v = first_in(s, 0);
-        cells::set_running(s, v);
+        let v = first_in(s, layout::ABLE_QUEUE);
+        numbers::set_running(s, v);
     }
 }

@@ -1,21 +1,25 @@
 // Task create, delete, change priority, suspend, resume.
 ghost use mathlib.Core.Path.{_≡_};
 ghost use mathlib.Core.Bool.{_&&_};
-ghost use Rattle.rules.specs.Move.{chosen, isRunning};
+ghost use Prim.Native.Nat.{_<_};
+ghost use Rattle.rules.specs.Table.{taskOf, withSuspend};
+ghost use Rattle.rules.specs.Move.{put, chosen, isRunning};
 ghost use Rattle.rules.specs.Task.{isLocked, created, holdsBelow, createAnswer, create, deleteAnswer, delete, priorityAnswer, changePriority, suspendAnswer, suspend, resumeAnswer, resume};
 ghost use Rattle.table.specs.Image.{Image, view};
 ghost use Rattle.service.specs.Served.{Served};
 use chain::walk;
-use table::cells;
 use table::moves;
+use table::mutexes;
+use table::numbers;
+use table::tasks;
 
 // Whether task i runs while the scheduler is locked.
 fn runs_locked(s: &[u8], i: u32) -> bool
     requires { ⌜ Image (now s) ⌝ }
     ensures { λ r. ⌜ r ≡ isLocked (view (now (s .entry))) && isRunning i (view (now (s .entry))) ⌝ }
 {
-    let d = cells::get_depth(s);
-    let v = cells::get_running(s);
+    let d = numbers::get_depth(s);
+    let v = numbers::get_running(s);
     !(d == 0) & (v as u64 == i as u64 + 1)
 }
 
@@ -44,8 +48,7 @@ pub fn create_task(s: &mut [u8], i: u32, base: u32, quantum: u32) -> u8
     if 32 <= i {
         return 1;
     }
-    let k = cells::task_at(s, i as usize);
-    if k.used == 1 {
+    if tasks::get_used(s, i as usize) == 1 {
         return 3;
     }
     if 62 < base {
@@ -66,8 +69,8 @@ fn holds_any(s: &[u8], i: u32) -> bool
 {
     let mut m: usize = 0;
     while m < 16 {
-        let x = cells::mutex_at(s, m);
-        if x.holder as u64 == i as u64 + 1 {
+        let v = mutexes::get_holder(s, m);
+        if v as u64 == i as u64 + 1 {
             return true;
         }
         m += 1;
@@ -82,8 +85,7 @@ pub fn delete_task(s: &mut [u8], i: u32) -> u8
     if 32 <= i {
         return 1;
     }
-    let k = cells::task_at(s, i as usize);
-    if !(k.used == 1) {
+    if !(tasks::get_used(s, i as usize) == 1) {
         return 2;
     }
     if runs_locked(s, i) {
@@ -93,7 +95,7 @@ pub fn delete_task(s: &mut [u8], i: u32) -> u8
         return 13;
     }
     let holder = chain::next_of(s, i as usize);
-    moves::take_out(s, i as usize, cells::no_task());
+    moves::clear_task(s, i as usize);
     walk::walk_from(s, holder);
     moves::choose(s);
     0
@@ -106,18 +108,26 @@ pub fn change_priority(s: &mut [u8], i: u32, base: u32) -> u8
     if 32 <= i {
         return 1;
     }
-    let mut k = cells::task_at(s, i as usize);
-    if !(k.used == 1) {
+    if !(tasks::get_used(s, i as usize) == 1) {
         return 2;
     }
     if 62 < base {
         return 4;
     }
-    k.base = base as u8;
-    moves::keep_task(s, i as usize, k);
+    tasks::set_base(s, i as usize, base as u8);
     walk::walk_from(s, i as usize);
     moves::choose(s);
     0
+}
+
+// The suspend count of task i becomes n; a plain task that is suspended leaves the able queue, and goes behind its equals when it is not.
+fn suspend_to(s: &mut [u8], i: usize, n: u8)
+    requires { ⌜ (i < 32) × Image (now s) ⌝ }
+    ensures { λ _. ⌜ view (now (s .exit)) ≡ put i (withSuspend n (taskOf (view (now (s .entry))) i)) (view (now (s .entry))) ⌝ }
+{
+    let q = moves::place_of(s, i);
+    tasks::set_suspend(s, i, n);
+    moves::settle(s, i, q);
 }
 
 pub fn suspend_task(s: &mut [u8], i: u32) -> u8
@@ -127,18 +137,17 @@ pub fn suspend_task(s: &mut [u8], i: u32) -> u8
     if 32 <= i {
         return 1;
     }
-    let mut k = cells::task_at(s, i as usize);
-    if !(k.used == 1) {
+    if !(tasks::get_used(s, i as usize) == 1) {
         return 2;
     }
     if runs_locked(s, i) {
         return 7;
     }
-    if 250 <= k.suspend {
+    let n = tasks::get_suspend(s, i as usize);
+    if 250 <= n {
         return 10;
     }
-    k.suspend = k.suspend + 1;
-    moves::put_task(s, i as usize, k);
+    suspend_to(s, i as usize, n + 1);
     moves::choose(s);
     0
 }
@@ -150,15 +159,14 @@ pub fn resume_task(s: &mut [u8], i: u32) -> u8
     if 32 <= i {
         return 1;
     }
-    let mut k = cells::task_at(s, i as usize);
-    if !(k.used == 1) {
+    if !(tasks::get_used(s, i as usize) == 1) {
         return 2;
     }
-    if k.suspend == 0 {
+    let n = tasks::get_suspend(s, i as usize);
+    if n == 0 {
         return 12;
     }
-    k.suspend = k.suspend - 1;
-    moves::put_task(s, i as usize, k);
+    suspend_to(s, i as usize, n - 1);
     moves::choose(s);
     0
 }

@@ -3,18 +3,19 @@ use mathlib.Core.Path.{_≡_, refl, sym, ap, _∙_}
 use mathlib.Core.Bool.{Bool, true, false, cond, not, _&&_, _||_, true≢false}
 use Prim.Native.Nat.{ℕ, zero, suc, _+_, _-_, _≤_, _<_}
 use native.Mathlib.Omega.{arith}
-use native.Mathlib.Nat.{add-zero}
 use native.Mathlib.Numerals.{add-one}
 use lib.Dec.{eqb}
+use lib.ListN.{length, List·getD-eq-default}
+use lib.Seq.{getD-set-same}
 use borrow.Author.Tests.{eq-eqb, ne-eqb}
 use Rattle.rules.specs.declared.Task.{Task}
-use Rattle.rules.specs.Sizes.{delayed, given, timedOut}
-use Rattle.rules.specs.Table.{Table, taskOf, withLeft}
+use Rattle.rules.specs.Sizes.{taskCount}
+use Rattle.rules.specs.Table.{Table, taskOf, noTask, withTask, withLeft}
 use Rattle.rules.specs.Move.{put, rotate, ended, hasPeer}
 use Rattle.rules.specs.Time.{callerOf}
 use Rattle.rules.specs.Tick.{turned, isDue, dueEnded, dueBelow}
-use Rattle.laws.specs.queues.Fields.{ended-rest}
-use Rattle.tick.specs.Marks.{isAt, someAt, dueFrom}
+use Rattle.laws.specs.queues.Put.{put-stays, place-same}
+use Rattle.tick.specs.Marks.{isAt, someAt}
 
 -- ---- two tests at once, and a third
 
@@ -28,37 +29,50 @@ both-are false b p e = absurd (true≢false e)
 both-are true false p e = absurd (true≢false e)
 both-are true true p e = refl
 
+or-true : (b : Bool) → b || true ≡ true
+or-true false = refl
+or-true true = refl
+
 -- ---- the turn of the running task
 
--- nothing left is nothing less
-pub none-less : (k : Task) → k .left ≡ 0 → k ≡ withLeft (k .left - 1) k
-none-less k e =
-    let d : k .left ≡ k .left - 1 = omega arith in
-    λ j. withLeft (d j) k
+-- what the turn of task i, which has so much left, makes of the table u
+abbrev ofTurn : ℕ → ℕ → Table → Table
+ofTurn left i u = cond (eqb left 0 && (eqb (u .depth) 0 && hasPeer i u)) (rotate i u) u
 
--- what the turn of task i makes of the table u, where it has one tick less
-abbrev ofTurn : ℕ → Table → Table
-ofTurn i u = cond (eqb (taskOf u i .left) 0 && (eqb (u .depth) 0 && hasPeer i u)) (rotate i u) u
-
-module _ (t : Table) {i r : ℕ} {k : Task} (caller : i ≡ callerOf t) (runs : r ≡ t .running) (task : k ≡ taskOf t i) where
-  pub turned-not : eqb r 0 || eqb (k .quantum) 0 ≡ true → t ≡ turned t
+module _ (t : Table) {i : ℕ} (caller : i ≡ callerOf t) (size : length (t .tasks) ≡ taskCount) where
+  -- no task has that number
+  pub turned-none : taskCount ≤ i → t ≡ turned t
   unfolding turned
-  turned-not e = rw (← caller, ← runs, ← task, e)
+  turned-none l =
+      let none : taskOf t i ≡ noTask = List·getD-eq-default (t .tasks) noTask (omega arith) in
+      rw (← caller, none, or-true (eqb (t .running) 0))
 
-  turned-is : eqb r 0 || eqb (k .quantum) 0 ≡ false → ofTurn i (put i (withLeft (k .left - 1) k) t) ≡ turned t
-  unfolding turned
-  turned-is e = rw (← caller, ← runs, ← task, e)
+  module _ (l : i < taskCount) {r q : ℕ} (runs : r ≡ t .running) (quantum : q ≡ taskOf t i .quantum) where
+    pub turned-not : eqb r 0 || eqb q 0 ≡ true → t ≡ turned t
+    unfolding turned
+    turned-not e = rw (← caller, ← runs, ← quantum, e)
 
-  module _ {u : Table} {x : Task} {b : Bool} (less : u ≡ put i (withLeft (k .left - 1) k) t) (now : x ≡ taskOf u i)
-      (over : b ≡ eqb (x .left) 0 && (eqb (u .depth) 0 && hasPeer i u)) (goes : eqb r 0 || eqb (k .quantum) 0 ≡ false) where
-    turned-to : ofTurn i u ≡ turned t
-    turned-to = ap (ofTurn i) less ∙ turned-is goes
+    module _ {left : ℕ} {u : Table} {b : Bool} (less : left ≡ taskOf t i .left - 1) (stored : u ≡ withTask i (withLeft left (taskOf t i)) t)
+        (over : b ≡ eqb left 0 && (eqb (u .depth) 0 && hasPeer i u)) (goes : eqb r 0 || eqb q 0 ≡ false) where
+      -- no other field of the task changes, and no queue
+      shorter : put i (withLeft (taskOf t i .left - 1) (taskOf t i)) t ≡ u
+      shorter =
+          ap (λ (n : ℕ). put i (withLeft n (taskOf t i)) t) (sym less)
+          ∙ put-stays i (withLeft left (taskOf t i)) t l (sym (place-same (taskOf t i) (withLeft left (taskOf t i)) refl refl refl refl)) refl
+          ∙ sym stored
 
-    pub turned-over : b ≡ true → rotate i u ≡ turned t
-    turned-over e = rw (← now, ← over, e) at turned-to
+      now-left : taskOf u i .left ≡ left
+      now-left = ap (λ (x : Table). taskOf x i .left) stored ∙ ap (λ (k : Task). k .left) (getD-set-same (t .tasks) i (withLeft left (taskOf t i)) noTask (omega arith))
 
-    pub turned-on : b ≡ false → u ≡ turned t
-    turned-on e = rw (← now, ← over, e) at turned-to
+      turned-to : ofTurn left i u ≡ turned t
+      unfolding turned
+      turned-to = rw (← caller, (rw (runs, quantum) at goes), shorter, now-left)
+
+      pub turned-over : b ≡ true → rotate i u ≡ turned t
+      turned-over e = rw (← over, e) at turned-to
+
+      pub turned-on : b ≡ false → u ≡ turned t
+      turned-on e = rw (← over, e) at turned-to
 
 -- ---- the tasks that are due
 
@@ -83,49 +97,15 @@ pub below-none : (t : Table) → t ≡ dueBelow 0 t
 unfolding dueBelow
 below-none t = refl
 
--- ---- some tasks in a row
+-- ---- all of them at once
 
-or-none : (b : Bool) → b || false ≡ b
-or-none false = refl
-or-none true = refl
-
--- The due marks of eight tasks, as they are asked for one by one.
-pub some-eight : (a now : ℕ) (t : Table)
-    → someAt 8 a now t ≡ isAt a now t || (isAt (a + 1) now t || (isAt (a + 2) now t || (isAt (a + 3) now t || (isAt (a + 4) now t || (isAt (a + 5) now t || (isAt (a + 6) now t || isAt (a + 7) now t))))))
+pub some-none : (now : ℕ) (t : Table) → false ≡ someAt 0 now t
 unfolding someAt
-some-eight a now t =
-    let e2 : a + 1 + 1 ≡ a + 2 = omega arith in
-    let e3 : a + 1 + 1 + 1 ≡ a + 3 = omega arith in
-    let e4 : a + 1 + 1 + 1 + 1 ≡ a + 4 = omega arith in
-    let e5 : a + 1 + 1 + 1 + 1 + 1 ≡ a + 5 = omega arith in
-    let e6 : a + 1 + 1 + 1 + 1 + 1 + 1 ≡ a + 6 = omega arith in
-    let e7 : a + 1 + 1 + 1 + 1 + 1 + 1 + 1 ≡ a + 7 = omega arith in
-    rw (e7, e6, e5, e4, e3, e2, or-none (isAt (a + 7) now t))
+some-none now t = refl
 
--- No end of a wait changes the tick.
-ended-tick : (outcome i : ℕ) (t : Table) → ended outcome i t .tick ≡ t .tick
-ended-tick outcome i t = ap (λ (x : Table). x .tick) (ended-rest outcome i t)
-
-due-tick : (i : ℕ) (t : Table) → dueEnded i t .tick ≡ t .tick
-unfolding dueEnded
-due-tick i t = go (isDue i t)
-  where
-    go : (b : Bool) → (cond b (ended (cond (eqb (taskOf t i .state) delayed) given timedOut) i t) t) .tick ≡ t .tick
-    go true = ended-tick _ i t
-    go false = refl
-
-below-tick : (n : ℕ) (t : Table) → dueBelow n t .tick ≡ t .tick
-unfolding dueBelow
-below-tick zero t = refl
-below-tick (suc n) t = due-tick n (dueBelow n t) ∙ below-tick n t
-
--- Those from a on, after those below a.
-below-from : (n a : ℕ) (t : Table) → dueFrom n a (dueBelow a t) ≡ dueBelow (a + n) t
-unfolding dueFrom
-below-from zero a t = sym (ap (λ (x : ℕ). dueBelow x t) (add-zero a))
-below-from (suc n) a t =
-    let e : a + 1 + n ≡ a + suc n = omega arith in
-    ap (dueFrom n (a + 1)) (below-next a t) ∙ below-from n (a + 1) t ∙ ap (λ (x : ℕ). dueBelow x t) e
+pub some-next : (n now : ℕ) (t : Table) → isAt n now t || someAt n now t ≡ someAt (n + 1) now t
+unfolding someAt
+some-next n now t = rw add-one
 
 or-first : (a b : Bool) → a || b ≡ false → a ≡ false
 or-first false b e = refl
@@ -140,34 +120,10 @@ and-none false b e = refl
 and-none true b e = e
 
 -- Where no mark is the tick, none is due.
-from-none : (n a : ℕ) (t : Table) → someAt n a (t .tick) t ≡ false → dueFrom n a t ≡ t
-unfolding someAt dueFrom
-from-none zero a t e = refl
-from-none (suc n) a t e =
-    let here = isAt a (t .tick) t in
-    let others = someAt n (a + 1) (t .tick) t in
-    let still : t ≡ dueEnded a t = due-not a t (and-none (eqb (taskOf t a .marked) 1) here (or-first here others e)) in
-    sym (ap (dueFrom n (a + 1)) still) ∙ from-none n (a + 1) t (or-last here others e)
-
--- The n tasks from a on, after those below a: they end, or are passed over.
-module _ (n a : ℕ) (t : Table) {u : Table} (before : u ≡ dueBelow a t) where
-  pub row-ends : {v : Table} → v ≡ dueFrom n a u → v ≡ dueBelow (a + n) t
-  row-ends e = e ∙ ap (dueFrom n a) before ∙ below-from n a t
-
-  pub row-passed : (now : ℕ) → now ≡ t .tick → someAt n a now u ≡ false → u ≡ dueBelow (a + n) t
-  row-passed now k e =
-      let same : now ≡ u .tick = k ∙ sym (below-tick a t) ∙ sym (ap (λ (x : Table). x .tick) before) in
-      row-ends (sym (from-none n a u (rw same at e)))
-
--- One task of those that are left, up to e.
-pub from-next : (e i : ℕ) (t : Table) → i < e → dueFrom (e - i) i t ≡ dueFrom (e - (i + 1)) (i + 1) (dueEnded i t)
-unfolding dueFrom
-from-next e i t l =
-    let s : e - i ≡ suc (e - (i + 1)) = omega arith in
-    rw s
-
-pub from-end : (e i : ℕ) (t : Table) → e ≤ i → dueFrom (e - i) i t ≡ t
-unfolding dueFrom
-from-end e i t l =
-    let s : e - i ≡ 0 = omega arith in
-    rw s
+pub none-due : (n : ℕ) (t : Table) → someAt n (t .tick) t ≡ false → t ≡ dueBelow n t
+unfolding someAt dueBelow
+none-due zero t e = refl
+none-due (suc n) t e =
+    let here = isAt n (t .tick) t in
+    let others = someAt n (t .tick) t in
+    due-not n t (and-none (eqb (taskOf t n .marked) 1) here (or-first here others e)) ∙ ap (dueEnded n) (none-due n t (or-last here others e))

@@ -86,6 +86,10 @@ alone-none i t e = go (hasPeer i t) refl
 
 -- ---- the second of the able queue
 
+never : (b : Bool) → (b && false) ≡ false
+never true = refl
+never false = refl
+
 module _ (i : ℕ) (t : Table) where
   pub second-none : second t ≡ 0 → false ≡ isSecondPeer i t
   unfolding isSecondPeer
@@ -95,7 +99,12 @@ module _ (i : ℕ) (t : Table) where
   unfolding isSecondPeer
   second-some v e d = rw (e, ne-eqb v 0 d)
 
-  -- What is no task's number has the record of a free one, which is not able.
+  -- A number that is no task's is no peer's: it has the record of a free one, which is not able.
+  pub second-past : (v : ℕ) → second t ≡ v → taskCount < v → length (t .tasks) ≡ taskCount → false ≡ isSecondPeer i t
+  unfolding isSecondPeer isAble
+  second-past v e h n =
+      rw (e, ne-eqb v 0 (λ z. omega arith), List·getD-eq-default (t .tasks) noTask {n = v - 1} (omega arith)) (sym (never (not (eqb (v - 1) i))))
+
   able-task : (j : ℕ) → length (t .tasks) ≡ taskCount → isAble (taskOf t j) ≡ true → j < taskCount
   unfolding isAble
   able-task j n e =

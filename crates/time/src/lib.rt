@@ -5,8 +5,9 @@ ghost use Rattle.rules.specs.Time.{markIn, yieldAnswer, yield, delayAnswer, del
 ghost use Rattle.table.specs.Image.{Image, view};
 ghost use Rattle.service.specs.Served.{Served};
 use service::ending;
-use table::cells;
 use table::moves;
+use table::numbers;
+use table::tasks;
 
 pub mod lock;
 pub mod peer;
@@ -16,20 +17,20 @@ pub fn mark_in(s: &[u8], n: u32) -> u32
     requires { ⌜ Image (now s) ⌝ }
     ensures { λ r. ⌜ r ≡ markIn n (view (now (s .entry))) ⌝ }
 {
-    std::num::wrapping_add_u32(cells::get_tick(s), n)
+    std::num::wrapping_add_u32(numbers::get_tick(s), n)
 }
 
 pub fn yield_turn(s: &mut [u8]) -> u8
     requires { ⌜ Image (now s) ⌝ }
     ensures { λ r. ⌜ Served (yieldAnswer (view (now (s .entry)))) (chosen (yield (view (now (s .entry))))) r (now (s .entry)) (now (s .exit)) ⌝ }
 {
-    if cells::get_running(s) == 0 {
+    if numbers::get_running(s) == 0 {
         return 6;
     }
-    if !(cells::get_depth(s) == 0) {
+    if !(numbers::get_depth(s) == 0) {
         return 7;
     }
-    let i = cells::caller_of(s);
+    let i = numbers::caller_of(s);
     if !peer::has_peer(s, i) {
         return 12;
     }
@@ -42,22 +43,18 @@ pub fn delay_by(s: &mut [u8], n: u32) -> u8
     requires { ⌜ Image (now s) ⌝ }
     ensures { λ r. ⌜ Served (delayAnswer n (view (now (s .entry)))) (chosen (delay n (view (now (s .entry))))) r (now (s .entry)) (now (s .exit)) ⌝ }
 {
-    if cells::get_running(s) == 0 {
+    if numbers::get_running(s) == 0 {
         return 6;
     }
     if n == 0 {
         return 4;
     }
-    if !(cells::get_depth(s) == 0) {
+    if !(numbers::get_depth(s) == 0) {
         return 7;
     }
-    let i = cells::caller_of(s);
-    let mut k = cells::task_at(s, i);
-    k.state = 1;
-    k.object = 0;
-    k.marked = 1;
-    k.due = mark_in(s, n);
-    moves::take_out(s, i, k);
+    let i = numbers::caller_of(s);
+    let due = mark_in(s, n);
+    ending::delay_task(s, i, 1, due);
     moves::choose(s);
     0
 }
@@ -69,11 +66,10 @@ pub fn delay_resume(s: &mut [u8], i: u32) -> u8
     if 32 <= i {
         return 1;
     }
-    let k = cells::task_at(s, i as usize);
-    if !(k.used == 1) {
+    if !(tasks::get_used(s, i as usize) == 1) {
         return 2;
     }
-    if !(k.state == 1) {
+    if !(tasks::get_state(s, i as usize) == 1) {
         return 12;
     }
     ending::end_wait(s, 0, i as usize);

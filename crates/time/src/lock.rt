@@ -3,18 +3,18 @@ ghost use Rattle.rules.specs.Move.{chosen};
 ghost use Rattle.rules.specs.Lock.{lockAnswer, lock, unlockAnswer, unlock};
 ghost use Rattle.table.specs.Image.{Image, view};
 ghost use Rattle.service.specs.Served.{Served};
-use table::cells;
 use table::moves;
+use table::numbers;
 
 pub fn lock_on(s: &mut [u8]) -> u8
     requires { ⌜ Image (now s) ⌝ }
     ensures { λ r. ⌜ Served (lockAnswer (view (now (s .entry)))) (chosen (lock (view (now (s .entry))))) r (now (s .entry)) (now (s .exit)) ⌝ }
 {
-    let d = cells::get_depth(s);
+    let d = numbers::get_depth(s);
     if 250 <= d {
         return 10;
     }
-    cells::set_depth(s, d + 1);
+    numbers::set_depth(s, d + 1);
     moves::choose(s);
     0
 }
@@ -23,11 +23,11 @@ pub fn unlock_once(s: &mut [u8]) -> u8
     requires { ⌜ Image (now s) ⌝ }
     ensures { λ r. ⌜ Served (unlockAnswer (view (now (s .entry)))) (chosen (unlock (view (now (s .entry))))) r (now (s .entry)) (now (s .exit)) ⌝ }
 {
-    let d = cells::get_depth(s);
+    let d = numbers::get_depth(s);
     if d == 0 {
         return 12;
     }
-    cells::set_depth(s, d - 1);
+    numbers::set_depth(s, d - 1);
     moves::choose(s);
     0
 }

@@ -1,20 +1,33 @@
 // Whether another able task has a task's working priority.
 ghost use mathlib.Core.Path.{_≡_};
+ghost use Prim.Native.Nat.{_<_};
 ghost use Rattle.rules.specs.Sound.{once};
+ghost use Rattle.rules.specs.Table.{taskOf};
 ghost use Rattle.rules.specs.Move.{peerBelow};
 ghost use Rattle.table.specs.Image.{Image, view};
 ghost use Rattle.time.specs.Peers.{isPlainWith, plainBelow, isAlone, isPeer, isSecondPeer};
-use table::cells;
 use table::moves;
+use table::tasks;
+
+// The working priority of task i; 0, that of a free number, where i is no task's.
+fn work_of(s: &[u8], i: usize) -> u8
+    requires { ⌜ Image (now s) ⌝ }
+    ensures { λ r. ⌜ r ≡ taskOf (view (now (s .entry))) i .work ⌝ }
+{
+    if 32 <= i {
+        return 0;
+    }
+    tasks::get_work(s, i)
+}
 
 // Whether task j is able, other than i, and of the working priority w.
 fn is_peer(s: &[u8], j: usize, i: usize, w: u8) -> bool
-    requires { ⌜ Image (now s) ⌝ }
+    requires { ⌜ (j < 32) × Image (now s) ⌝ }
     ensures { λ r. ⌜ r ≡ isPeer j i w (view (now (s .entry))) ⌝ }
 {
-    let k = cells::task_at(s, j);
-    let able = moves::is_able(k);
-    !(j == i) & (able & (k.work == w))
+    let able = moves::is_able(s, j);
+    let work = tasks::get_work(s, j);
+    !(j == i) & (able & (work == w))
 }
 
 // Whether another able task has the working priority of task i: each task is asked.
@@ -22,8 +35,7 @@ fn find_peer(s: &[u8], i: usize) -> bool
     requires { ⌜ Image (now s) ⌝ }
     ensures { λ r. ⌜ r ≡ peerBelow 32 i (view (now (s .entry))) ⌝ }
 {
-    let k = cells::task_at(s, i);
-    let w = k.work;
+    let w = work_of(s, i);
     let mut j: usize = 32;
     while 0 < j {
         j -= 1;
@@ -34,11 +46,14 @@ fn find_peer(s: &[u8], i: usize) -> bool
     false
 }
 
-// 1 for a plain task of the working priority w.
-fn counts_as(k: rules::Task, w: u8) -> u8
-    ensures { λ r. ⌜ r ≡ once (isPlainWith w k) ⌝ }
+// 1 where task j is plain and of the working priority w.
+fn counts_as(s: &[u8], j: usize, w: u8) -> u8
+    requires { ⌜ (j < 32) × Image (now s) ⌝ }
+    ensures { λ r. ⌜ r ≡ once (isPlainWith w (taskOf (view (now (s .entry))) j)) ⌝ }
 {
-    if (k.work == w) & (k.state == 0) {
+    let work = tasks::get_work(s, j);
+    let state = tasks::get_state(s, j);
+    if (work == w) & (state == 0) {
         return 1;
     }
     0
@@ -52,7 +67,7 @@ fn plain_with(s: &[u8], w: u8) -> u8
     let mut n: u8 = 0;
     let mut j = 0;
     while j < 32 {
-        n += counts_as(cells::get_task(s, j), w);
+        n += counts_as(s, j, w);
         j += 1;
     }
     n
@@ -66,11 +81,11 @@ fn is_alone(s: &[u8], i: usize) -> bool
     if 32 <= i {
         return false;
     }
-    let k = cells::get_task(s, i);
-    if k.state != 0 {
+    if tasks::get_state(s, i) != 0 {
         return false;
     }
-    plain_with(s, k.work) <= 1
+    let w = tasks::get_work(s, i);
+    plain_with(s, w) <= 1
 }
 
 // Whether the second of the able queue is a peer of task i.
@@ -82,8 +97,11 @@ fn is_second_peer(s: &[u8], i: usize) -> bool
     if v == 0 {
         return false;
     }
-    let k = cells::task_at(s, i);
-    is_peer(s, v as usize - 1, i, k.work)
+    if 32 < v {
+        return false;
+    }
+    let w = work_of(s, i);
+    is_peer(s, v as usize - 1, i, w)
 }
 
 // Whether another able task has the working priority of task i. Two quick questions mostly settle it, and else each task is asked.

@@ -14,7 +14,7 @@ abbrev μ-loop : tie.MeasureT-loop
 μ-loop s given₀ i base j₀ given j = above base given
 
 loop-holds : tie.Need-loop-holds Inv-loop μ-loop
-loop-holds c = carrying-start (omega arith) (c .before .base-of .ensures) (c .next-of .ensures) (c .before .before .before .before .pre .2)
+loop-holds c = carrying-start (omega arith) (c .before .get-base .ensures) (c .next-of .ensures) (c .before .before .before .before .pre .2)
 
 slice-read-v : tie.Need-slice-read-v Inv-loop μ-loop
 slice-read-v c = omega (arith, c .before .before .loop .inv .size)
@@ -29,7 +29,7 @@ same-length-2 : tie.Need-same-length-2 Inv-loop μ-loop
 same-length-2 c = omega (arith, c .before .before .before .before .before .loop .inv .size, c .before .before .before .before .before .before .before .before .before .before .pre .2 .size)
 
 returns-2 : tie.Need-returns-2 Inv-loop μ-loop
-returns-2 c = carrying-end (c .before .before .before .before .before .loop .inv) (λ h. omega (arith, c .before .base-of2 .ensures))
+returns-2 c = carrying-end (c .before .before .before .before .before .loop .inv) (λ h. omega (arith, c .before .get-base2 .ensures))
 
 slice-write-given : tie.Need-slice-write-given Inv-loop μ-loop
 slice-write-given c = omega (arith, c .before .before .before .before .before .loop .inv .size)
@@ -40,7 +40,7 @@ loop-less c =
     above-set _ (i .given) (i .j) (omega (arith, i .inv .size)) (omega arith)
 
 loop-again : tie.Need-loop-again Inv-loop μ-loop
-loop-again c = carrying-on (c .before .before .before .before .before .before .loop .inv) (omega arith) (omega (arith, c .before .before .base-of2 .ensures)) (c .next-of2 .ensures)
+loop-again c = carrying-on (c .before .before .before .before .before .before .loop .inv) (omega arith) (omega (arith, c .before .before .get-base2 .ensures)) (c .next-of2 .ensures)
 
 same-length-3 : tie.Need-same-length-3 Inv-loop μ-loop
 same-length-3 c = omega (arith, c .before .loop .inv .size, c .before .before .before .before .before .before .pre .2 .size)

@@ -21,13 +21,13 @@ returns : tie.Need-returns
 returns c =
     let k = c .before .before .before .before in
     let a = k .before in
-    omega (arith, c .before .before .base-of .ensures, given-worked (a .args .s .now) (a .args .i) (λ j. omega (arith, k .shared-slice-known .given j)) (a .pre))
+    omega (arith, c .before .before .get-base .ensures, given-worked (a .args .s .now) (a .args .i) (λ j. omega (arith, k .shared-slice-known .given j)) (a .pre))
 
 returns-2 : tie.Need-returns-2
 returns-2 c =
     let k = c .before .before .before .before in
     let a = k .before in
-    omega (arith, c .before .before .base-of .ensures, given-worked (a .args .s .now) (a .args .i) (λ j. omega (arith, k .shared-slice-known .given j)) (a .pre))
+    omega (arith, c .before .before .get-base .ensures, given-worked (a .args .s .now) (a .args .i) (λ j. omega (arith, k .shared-slice-known .given j)) (a .pre))
 
 pub fresh-of-spec : {M : Type 1} → statement M
 fresh-of-spec = tie.close (tie.spec (λ c κs. search needs) (λ c. omega (arith, given-size (c .before .before .before .before .pre .2))) returns returns-2)

@@ -6,11 +6,11 @@ use Prim.Native.Nat.{ℕ, _-_, _<_}
 use native.Mathlib.Decide.{ℕ-discrete}
 use lib.ListN.{length}
 use Rattle.rules.specs.Sizes.{taskCount, given}
-use Rattle.rules.specs.Table.{Table, taskOf, isAble, mutexQueue, firstIn, heldBy, withMutex, withLeft}
+use Rattle.rules.specs.Table.{Table, taskOf, isAble, mutexQueue, firstIn, withLeft}
 use Rattle.rules.specs.Decides.{equals}
 use Rattle.rules.specs.Move.{put, rotate, walk, next, away, ready, ended}
 use Rattle.rules.specs.Time.{callerOf}
-use Rattle.rules.specs.Mutex.{handed, released}
+use Rattle.rules.specs.Mutex.{withHoldOf, handed, released}
 use Rattle.rules.specs.declared.Task.{Task}
 use Rattle.rules.specs.Sound.{SoundQueues}
 use Rattle.laws.specs.queues.Stands.{able}
@@ -88,11 +88,11 @@ caller-used t a = able (caller t) .holds a .used
 
 -- The mutex that it releases is free, and it moves.
 abbrev pub freed : ℕ → Table → Table
-freed m t = walk (callerOf t) (withMutex m (heldBy 0 0) t)
+freed m t = walk (callerOf t) (withHoldOf m 0 0 t)
 
 -- Then the task written w, the first waiter, holds it.
 abbrev pub given-to : ℕ → ℕ → Table → Table
-given-to m w t = put (w - 1) (ready given (taskOf t (w - 1))) (withMutex m (heldBy w 1) t)
+given-to m w t = put (w - 1) (ready given (taskOf t (w - 1))) (withHoldOf m w 1 t)
 
 pub released-one : (P : Table → Type 0) (m : ℕ) (t : Table)
     → (firstIn (mutexQueue m) (freed m t) ≡ 0 → P (freed m t))

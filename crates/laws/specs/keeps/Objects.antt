@@ -6,7 +6,7 @@ use native.Mathlib.Nat.{pos-of-ne-zero}
 use borrow.Author.Tests.{eqb-true, eq-eqb, ne-eqb, ltb-true, lt-ltb}
 use native.Mathlib.Omega.{arith}
 use Rattle.rules.specs.Sizes.{taskCount, mutexCount, mostNested, waitsSemaphore, waitsMutex}
-use Rattle.rules.specs.Table.{Table, taskOf, semaphoreOf, mutexOf, written, noSemaphore, noMutex, heldBy, withSemaphore, withMutex, holderOf}
+use Rattle.rules.specs.Table.{Table, taskOf, semaphoreOf, mutexOf, written, noSemaphore, noMutex, withHold, withSemaphore, withMutex, holderOf}
 use Rattle.rules.specs.declared.Task.{Task}
 use Rattle.rules.specs.declared.Semaphore.{Semaphore}
 use Rattle.rules.specs.declared.Mutex.{Mutex}
@@ -127,9 +127,9 @@ mutex-objects {t} m x old right waited uses =
       holders = λ n l. set-each (λ n y. y .holder ≢ 0 → taskOf t (y .holder - 1) .used ≡ 1) (t .mutexes) m n x noMutex uses (old .holders n l);
     }
 
--- A mutex without a holder, and one with.
-pub unheld-right : SoundMutex (heldBy 0 0)
-unheld-right = record { used = omega arith; holder = omega arith; nesting = omega arith; free = λ z. absurd (omega arith); unheld = λ e. refl; held = λ d. absurd (d refl) }
+-- A mutex in use without a holder, and one with.
+pub unheld-right : (x : Mutex) → x .used ≡ 1 → SoundMutex (withHold 0 0 x)
+unheld-right x u = record { used = omega arith; holder = omega arith; nesting = omega arith; free = λ z. absurd (omega arith); unheld = λ e. refl; held = λ d. absurd (d refl) }
 
-pub held-right : (h n : ℕ) → h ≢ 0 → h ≤ taskCount → 1 ≤ n → n ≤ mostNested → SoundMutex (heldBy h n)
-held-right h n d l g k = record { used = omega arith; holder = l; nesting = k; free = λ z. absurd (omega arith); unheld = λ e. absurd (d e); held = λ e. g }
+pub held-right : (x : Mutex) → x .used ≡ 1 → (h n : ℕ) → h ≢ 0 → h ≤ taskCount → 1 ≤ n → n ≤ mostNested → SoundMutex (withHold h n x)
+held-right x u h n d l g k = record { used = omega arith; holder = l; nesting = k; free = λ z. absurd (omega arith); unheld = λ e. absurd (d e); held = λ e. g }

@@ -8,11 +8,11 @@ use lib.ListN.{length}
 use lib.Seq.{getD-set-same, set-set}
 use Rattle.rules.specs.Sizes.{taskCount, mutexCount, given}
 use Rattle.rules.specs.Chain.{fresh}
-use Rattle.rules.specs.Table.{Table, taskOf, mutexOf, mutexQueue, firstIn, written, noMutex, heldBy, withMutex, holderOf}
+use Rattle.rules.specs.Table.{Table, taskOf, mutexOf, mutexQueue, firstIn, written, noMutex, withHold, holderOf}
 use Rattle.rules.specs.Family.{placeOf}
 use Rattle.rules.specs.Move.{next, baseOf, ready}
 use Rattle.rules.specs.Time.{callerOf}
-use Rattle.rules.specs.Mutex.{released}
+use Rattle.rules.specs.Mutex.{withHoldOf, released}
 use Rattle.rules.specs.declared.Task.{Task}
 use Rattle.rules.specs.declared.Mutex.{Mutex}
 use Rattle.rules.specs.Sound.{SoundWithin, SoundQueues, WorkedOut, SoundObjects}
@@ -40,7 +40,7 @@ module _ (m : ℕ) (t : Table) (q : SoundQueues t) (l : m < mutexCount) (worked 
   i = w - 1
 
   abbrev held : Table
-  held = withMutex m (heldBy w 1) t
+  held = withHoldOf m w 1 t
 
   abbrev u : Table
   u = given-to m w t
@@ -55,7 +55,7 @@ module _ (m : ℕ) (t : Table) (q : SoundQueues t) (l : m < mutexCount) (worked 
   stored = put-stored i (ready given (taskOf t i)) held task
 
   holds : holderOf held m ≡ i
-  holds = written-holder held m i (omega (arith, ap (λ (x : Mutex). x .holder) (getD-set-same (t .mutexes) m (heldBy w 1) noMutex (omega (arith, q .shaped .mutexes)))))
+  holds = written-holder held m i (omega (arith, ap (λ (x : Mutex). x .holder) (getD-set-same (t .mutexes) m (withHold w 1 (mutexOf t m)) noMutex (omega (arith, q .shaped .mutexes)))))
 
   -- The other waiters wait for the first, which is no less urgent.
   others : (j : ℕ) → j ≢ i → Dec (Waits t m j)
@@ -69,7 +69,7 @@ module _ (m : ℕ) (t : Table) (q : SoundQueues t) (l : m < mutexCount) (worked 
         stored-next-other stored j d ∙ waits-next held m j x ∙ holds,
         omega (arith, least, worked-computed t z worked i task, worked-computed t z worked j k),
       )
-  others j d (no x) = inl (stored-next-other stored j d ∙ mutex-other m (heldBy w 1) t j x)
+  others j d (no x) = inl (stored-next-other stored j d ∙ mutex-other m (withHold w 1 (mutexOf t m)) t j x)
 
   handing : Handed taskCount (next t) (next u) (baseOf t) i
   handing =
@@ -90,24 +90,30 @@ module _ (m : ℕ) (t : Table) (q : SoundQueues t) (l : m < mutexCount) (worked 
 
 -- ---- a release
 
-module _ {n : ℕ} {t : Table} (h : Midway n t) (m : ℕ) (l : m < mutexCount) (own : mutexOf t m .holder ≡ written (callerOf t)) where
+module _ {n : ℕ} {t : Table} (h : Midway n t) (m : ℕ) (l : m < mutexCount) (used : mutexOf t m .used ≡ 1) (own : mutexOf t m .holder ≡ written (callerOf t)) where
   s : SoundWithin t
   s = h .settled
 
   -- The mutex counts for nobody.
+  abbrev unheld : Mutex
+  unheld = withHold 0 0 (mutexOf t m)
+
   abbrev free : Table
-  free = withMutex m (heldBy 0 0) t
+  free = withHoldOf m 0 0 t
+
+  is-unheld : mutexOf free m ≡ unheld
+  is-unheld = getD-set-same (t .mutexes) m unheld noMutex (omega (arith, s .queued .shaped .mutexes))
 
   none-holds : mutexOf free m .holder ≡ 0
-  none-holds = ap (λ (x : Mutex). x .holder) (getD-set-same (t .mutexes) m (heldBy 0 0) noMutex (omega (arith, s .queued .shaped .mutexes)))
+  none-holds = ap (λ (x : Mutex). x .holder) is-unheld
 
   -- The waiters of m no longer wait for the caller, and the others wait as they did.
   waits : (j : ℕ) → Dec (Waits t m j) → (next free j ≡ next t j) ⊎ (Toward taskCount (callerOf t) (next t j) × Toward taskCount (callerOf t) (next free j))
   waits j (yes q) = inr (inl (waits-next t m j q ∙ written-holder t m (callerOf t) own), inr (omega (arith, waits-next free m j q, no-holder free m none-holds)))
-  waits j (no q) = inl (mutex-other m (heldBy 0 0) t j q)
+  waits j (no q) = inl (mutex-other m unheld t j q)
 
   queued : SoundQueues (freed m t)
-  queued = walk-queued (callerOf t) (mutex-queued m (heldBy 0 0) (s .queued))
+  queued = walk-queued (callerOf t) (mutex-queued m unheld (s .queued))
 
   worked : WorkedOut (freed m t)
   worked = changed-worked t free (callerOf t) (sized s) (s .worked) (sized s) (λ j. refl) (λ j. inl refl) (λ j. waits j (waits-or t m j))
@@ -116,7 +122,7 @@ module _ {n : ℕ} {t : Table} (h : Midway n t) (m : ℕ) (l : m < mutexCount) (
   frees : firstIn (mutexQueue m) (freed m t) ≡ 0 → Midway n (freed m t)
   frees z =
       stores-walk-keeps h
-      (mutex-stores s m (heldBy 0 0) unheld-right (λ j k e x. absurd (unwaited among-mutexes queued m l z j k (same (λ y. y .state) j e) (same (λ y. y .object) j x))) (λ d. absurd (d refl)))
+      (mutex-stores s m unheld (unheld-right (mutexOf t m) used) (λ j k e x. absurd (unwaited among-mutexes queued m l z j k (same (λ y. y .state) j e) (same (λ y. y .object) j x))) (λ d. absurd (d refl)))
       (callerOf t)
       worked
     where
@@ -125,7 +131,7 @@ module _ {n : ℕ} {t : Table} (h : Midway n t) (m : ℕ) (l : m < mutexCount) (
 
   -- The first of its waiters holds it.
   gives : firstIn (mutexQueue m) (freed m t) ≢ 0 → Midway n (given-to m (firstIn (mutexQueue m) (freed m t)) (freed m t))
-  gives d = becomes-keeps h (may-end h waiter given (omega arith)) becomes (put-queued i _ (mutex-queued m (heldBy w 1) queued)) first-works objects
+  gives d = becomes-keeps h (may-end h waiter given (omega arith)) becomes (put-queued i _ (mutex-queued m _ queued)) first-works objects
     where
       w : ℕ
       w = firstIn (mutexQueue m) (freed m t)
@@ -152,7 +158,7 @@ module _ {n : ℕ} {t : Table} (h : Midway n t) (m : ℕ) (l : m < mutexCount) (
       becomes : Becomes i (ready given (taskOf t i)) t u
       becomes =
           let walked = then-walk (as-is i t free refl refl) (callerOf t) in
-          let b = then-put (then-stored walked (withMutex m (heldBy w 1) (freed m t)) refl refl) (ready given (taskOf (freed m t) i)) r (queued .shaped .tasks) in
+          let b = then-put (then-stored walked (withHoldOf m w 1 (freed m t)) refl refl) (ready given (taskOf (freed m t) i)) r (queued .shaped .tasks) in
           record { itself = b .itself ∙ ap (λ (x : Task). bare (ready given x)) (walked .itself); others = b .others; frames = b .frames }
 
       first-works : WorkedOut u
@@ -165,8 +171,8 @@ module _ {n : ℕ} {t : Table} (h : Midway n t) (m : ℕ) (l : m < mutexCount) (
       with-mutexes : List Mutex → Table
       with-mutexes x = record { tasks = u .tasks; semaphores = u .semaphores; mutexes = x; queues = u .queues; tick = u .tick; depth = u .depth; running = u .running }
 
-      rests : rest u ≡ rest (withMutex m (heldBy w 1) t)
-      rests = put-rest i _ _ ∙ ap (λ (x : Table). rest (withMutex m (heldBy w 1) x)) (walk-rest (callerOf t) free) ∙ rw (set-set (t .mutexes) m (heldBy 0 0) (heldBy w 1))
+      rests : rest u ≡ rest (withHoldOf m w 1 t)
+      rests = put-rest i _ _ ∙ ap (λ (x : Table). rest (withHoldOf m w 1 x)) (walk-rest (callerOf t) free) ∙ rw (is-unheld, set-set (t .mutexes) m unheld (withHold w 1 (mutexOf t m)))
 
       awake : SoundObjects (with-mutexes (t .mutexes))
       awake =
@@ -180,8 +186,8 @@ module _ {n : ℕ} {t : Table} (h : Midway n t) (m : ℕ) (l : m < mutexCount) (
       objects : SoundObjects u
       objects =
           subst (λ (x : List Mutex). SoundObjects (with-mutexes x)) (sym (ap (λ (x : Table). x .mutexes) rests))
-          (mutex-objects m (heldBy w 1) awake (held-right w 1 d (omega (arith, r)) (omega arith) (omega arith))
-          (λ j k e x. record { used = refl; held = d; apart = λ z. let own : j ≡ i = omega arith in omega (arith, e, ap (λ (a : ℕ). taskOf u a .state) own, ap (λ (a : Task). a .state) (becomes .itself)) })
+          (mutex-objects m (withHold w 1 (mutexOf t m)) awake (held-right (mutexOf t m) used w 1 d (omega (arith, r)) (omega arith) (omega arith))
+          (λ j k e x. record { used = used; held = d; apart = λ z. let own : j ≡ i = omega arith in omega (arith, e, ap (λ (a : ℕ). taskOf u a .state) own, ap (λ (a : Task). a .state) (becomes .itself)) })
           (λ e. ap (λ (k : Task). k .used) (becomes .itself) ∙ waiter .used))
 
   pub released-keeps : Midway n (released m t)

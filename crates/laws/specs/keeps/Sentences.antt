@@ -43,8 +43,7 @@ pub record Sentences (t : Table) : Type 0 where
   pub waiters : Each queueCount (λ q. (q ≡ ableQueue → ⊥) → Each taskCount (λ i. count (written i) (queueOf t q) ≡ once (eqb (placeOf (taskOf t i)) q)))
   pub nothingElse : Each queueCount (λ q. All (λ v. v ≤ taskCount) (queueOf t q))
   -- "Waited-for objects are in use."
-  pub semaphoresInUse : Each taskCount (λ i. taskOf t i .state ≡ waitsSemaphore → semaphoreOf t (taskOf t i .object) .used ≡ 1)
-  pub mutexesInUse : Each taskCount (λ i. taskOf t i .state ≡ waitsMutex → mutexOf t (taskOf t i .object) .used ≡ 1)
+  pub objectsInUse : Each taskCount (λ i. (taskOf t i .state ≡ waitsSemaphore → semaphoreOf t (taskOf t i .object) .used ≡ 1) × (taskOf t i .state ≡ waitsMutex → mutexOf t (taskOf t i .object) .used ≡ 1))
   -- "Queues are ordered."
   pub ordered : Each queueCount (λ q. Ordered (works t) (queueOf t q))
   -- "Working priorities equal those worked out afresh (mission, 3)."
@@ -93,8 +92,7 @@ sound-sentences {t} s =
       able = λ i l. q .places ableQueue (omega arith) i l ∙ ap once (sym (able-place (taskOf t i)));
       waiters = λ p l d. q .places p l;
       nothingElse = q .nothingElse;
-      semaphoresInUse = λ i l e. h .objects .waits i l _ among-semaphores e .used;
-      mutexesInUse = λ i l e. h .objects .waits i l _ among-mutexes e .used;
+      objectsInUse = λ i l. ((λ e. h .objects .waits i l _ among-semaphores e .used), (λ e. h .objects .waits i l _ among-mutexes e .used));
       ordered = q .ordered;
       worked = h .worked;
       freeMutexes = λ m l z. (h .objects .mutexes m l .unheld z, no-queue among-mutexes q m l (h .tasks) (h .objects) (inr (eq-eqb _ 0 z)));
@@ -153,14 +151,14 @@ sentences-sound {t} s =
                       let o = taskOf t i .object in
                       let n : o < semaphoreCount = omega (arith, s .inRange .tasks i l .object, ap objectsIn e, numbers among-semaphores) in
                       awaited-may t i o l
-                      (record { used = s .semaphoresInUse i l e; count = s .counts o n (λ z. empty-none q (semaphoreQueue o) (omega arith) z i l (waiter-place (taskOf t i) among-semaphores e)) }))
+                      (record { used = s .objectsInUse i l .0 e; count = s .counts o n (λ z. empty-none q (semaphoreQueue o) (omega arith) z i l (waiter-place (taskOf t i) among-semaphores e)) }))
                       (λ e.
                       let m = taskOf t i .object in
                       let n : m < mutexCount = omega (arith, s .inRange .tasks i l .object, ap objectsIn e, numbers among-mutexes) in
                       let there : placeOf (taskOf t i) ≡ mutexQueue m = waiter-place (taskOf t i) among-mutexes e in
                       apart-may t i m
                       (record {
-                        used = s .mutexesInUse i l e;
+                        used = s .objectsInUse i l .1 e;
                         held = λ z. empty-none q (mutexQueue m) (omega arith) (s .freeMutexes m n z .1) i l there;
                         apart = λ z. let own : mutexOf t m .holder - 1 ≡ i = omega arith in s .holdersApart m n (omega arith) (ap (λ (j : ℕ). placeOf (taskOf t j)) own ∙ there);
                       }));

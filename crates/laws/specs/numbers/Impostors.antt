@@ -31,7 +31,7 @@ use Rattle.rules.specs.Move.{leave, join, stays, put, freshIn, chosen}
 use Rattle.rules.specs.Task.{createAnswer, create}
 use Rattle.rules.specs.Lock.{lockAnswer, lock, unlockAnswer}
 use Rattle.rules.specs.Object.{objectCreateAnswer, blocked, waits, taken}
-use Rattle.rules.specs.Mutex.{mutexCreate, mutexWaitAnswer, mutexWait}
+use Rattle.rules.specs.Mutex as mutex
 use Rattle.rules.specs.Kinds.{toldIn, spelled}
 use Rattle.rules.specs.Step.{answerTo, changeBy, forInterrupts, answer, effect, serve}
 use Rattle.laws.specs.keeps.Sounds.{step-serve, step-sound, fresh-sound}
@@ -116,7 +116,7 @@ record Raising : Type 0 where
   next : taskOf (serve (MutexWait 0 1 0) false raised .table) 3 .work ≡ 5
 
 raising : Raising
-unfolding firstAt later push pull opened closed leads smallest fresh walkOn freshTable isAble placeOf works leave join stays put holderOf next freshIn chosen createAnswer create objectCreateAnswer blocked waits taken mutexCreate mutexWaitAnswer mutexWait answerTo changeBy toldIn spelled forInterrupts answer effect serve count mayPrecede fits isOrdered each isShaped ofState marksIn isTaskInRange isNoTask isNoSemaphore isNoMutex isSoundTask isSoundSemaphore isSoundMutex mayWait eachOf isSoundWait isSoundObjects isSoundQueues isWorkedOut isSoundWithin isSoundRuns isSound after
+unfolding firstAt later push pull opened closed leads smallest fresh walkOn freshTable isAble placeOf works leave join stays put holderOf next freshIn chosen createAnswer create objectCreateAnswer blocked waits taken mutex.create mutex.waitAnswer mutex.wait answerTo changeBy toldIn spelled forInterrupts answer effect serve count mayPrecede fits isOrdered each isShaped ofState marksIn isTaskInRange isNoTask isNoSemaphore isNoMutex isSoundTask isSoundSemaphore isSoundMutex mayWait eachOf isSoundWait isSoundObjects isSoundQueues isWorkedOut isSoundWithin isSoundRuns isSound after
 raising = record { sound = refl; before = refl; base = refl; next = refl }
 
 -- Nothing that does what the rules say is one of the five.

@@ -18,9 +18,9 @@ use Rattle.rules.specs.Task.{onTask, createAnswer, deleteAnswer, priorityAnswer
 use Rattle.rules.specs.Time.{callerOf, byCaller, yieldAnswer, delayAnswer, delayResumeAnswer}
 use Rattle.rules.specs.Lock.{lockAnswer, unlockAnswer}
 use Rattle.rules.specs.Family.{Family, semaphores, mutexes}
-use Rattle.rules.specs.Object.{onObject, yesNo, waitAnswer, waitAnswerOn, onOne, objectCreateAnswer, objectDeleteAnswer, objectAbortAnswer}
-use Rattle.rules.specs.Semaphore.{semaphoreWaitAnswer, semaphorePostAnswer}
-use Rattle.rules.specs.Mutex.{mutexWaitAnswer, mutexPostAnswer}
+use Rattle.rules.specs.Object.{onObject, yesNo, blockAnswer, waitAnswerOn, onOne, objectCreateAnswer, objectDeleteAnswer, objectAbortAnswer}
+use Rattle.rules.specs.Semaphore as semaphore
+use Rattle.rules.specs.Mutex as mutex
 use Rattle.rules.specs.Sound.{Each, each, isSound}
 use Rattle.rules.specs.Step.{answerTo, forInterrupts, answer, serve, step}
 use Rattle.rules.specs.declared.Call.{Call}
@@ -136,14 +136,14 @@ aborts-is semaphoreAbort t = refl
 aborts-is mutexAbort t = refl
 
 asks-is : {c : Call} {f : Family} {o block : ℕ} → AsksFor c f o block → (t : Table) → (x : ℕ) × (answerTo c t ≡ waitAnswerOn f o block x t)
-unfolding answerTo semaphoreWaitAnswer mutexWaitAnswer
+unfolding answerTo semaphore.waitAnswer mutex.waitAnswer
 asks-is semaphoreWait t = (_, refl)
 asks-is mutexWait t = (_, refl)
 
 module _ (t : Table) where
   -- A call on a thing tests the thing first, or after the caller.
   on-start : {c : Call} {x : Thing} → On c x → (P : ℕ → Type 0) → P noneRunning → ((n : ℕ) → P (onObject (countOf x) (numberOf x) (usedIn t x) n)) → P (answerTo c t)
-  unfolding countOf numberOf usedIn answerTo deleteAnswer priorityAnswer suspendAnswer resumeAnswer delayResumeAnswer objectDeleteAnswer objectAbortAnswer semaphoreWaitAnswer semaphorePostAnswer mutexWaitAnswer mutexPostAnswer
+  unfolding countOf numberOf usedIn answerTo deleteAnswer priorityAnswer suspendAnswer resumeAnswer delayResumeAnswer objectDeleteAnswer objectAbortAnswer semaphore.waitAnswer semaphore.postAnswer mutex.waitAnswer mutex.postAnswer
   on-start taskDelete P none on = on _
   on-start changePriority P none on = on _
   on-start suspend P none on = on _
@@ -161,8 +161,8 @@ module _ (t : Table) where
   new-start aSemaphore P on = on _
   new-start aMutex P on = on _
 
-  nothing-start : {n block : ℕ} {c : Call} → leb (rank badValue) (rank n) ≡ true → FindsNothing t block c → Soon n (waitAnswer block t) → Soon n (answerTo c t)
-  unfolding answerTo semaphoreWaitAnswer mutexWaitAnswer
+  nothing-start : {n block : ℕ} {c : Call} → leb (rank badValue) (rank n) ≡ true → FindsNothing t block c → Soon n (blockAnswer block t) → Soon n (answerTo c t)
+  unfolding answerTo semaphore.waitAnswer mutex.waitAnswer
   nothing-start l (counted {s} {block} z) r =
       by-caller l t (on-one l semaphores t s (yes-no l block (miss done at-most (λ (h : 1 ≤ semaphoreOf t s .count). omega arith) r)))
   nothing-start l (held {m} {block} d e) r = by-caller l t (on-one l mutexes t m (yes-no l block (miss done (not-not equals) d (miss _ equals e r))))
@@ -174,7 +174,7 @@ module _ (t : Table) where
     own {c = c} l s = no-later c (past (sound t) (past (interrupted interrupt c) (sooner noneRunning byInterrupt l refl) s) (sooner noneRunning notSound l refl))
 
     rows : {n : ℕ} {c : Call} → Gets interrupt t n c → NoLater interrupt t n c
-    unfolding rank paperOrder firstAt answerTo createAnswer deleteAnswer priorityAnswer suspendAnswer resumeAnswer yieldAnswer delayAnswer delayResumeAnswer lockAnswer unlockAnswer objectDeleteAnswer objectAbortAnswer semaphoreWaitAnswer semaphorePostAnswer mutexWaitAnswer mutexPostAnswer
+    unfolding rank paperOrder firstAt answerTo createAnswer deleteAnswer priorityAnswer suspendAnswer resumeAnswer yieldAnswer delayAnswer delayResumeAnswer lockAnswer unlockAnswer objectDeleteAnswer objectAbortAnswer semaphore.waitAnswer semaphore.postAnswer mutex.waitAnswer mutex.postAnswer
     rows {c = c} (unsound s) = no-later c (miss _ (sound t) s itself-soon)
     rows {c = c} (interrupts e f) = no-later c (past (sound t) (hit _ (interrupted interrupt c) (e, f)) (within notSound refl))
     rows (yieldByNone z) = own refl (hit _ equals z)

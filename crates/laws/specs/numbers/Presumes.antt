@@ -14,9 +14,9 @@ use Rattle.rules.specs.Task.{isLocked, createAnswer, deleteAnswer, priorityAnsw
 use Rattle.rules.specs.Time.{callerOf, yieldAnswer, delayAnswer, delayResumeAnswer}
 use Rattle.rules.specs.Lock.{lockAnswer, unlockAnswer}
 use Rattle.rules.specs.Family.{Family, waitersOf, semaphores, mutexes}
-use Rattle.rules.specs.Object.{onObject, waitAnswer, waitAnswerOn, objectCreateAnswer, objectDeleteAnswer, objectAbortAnswer}
-use Rattle.rules.specs.Semaphore.{semaphoreWaitAnswer, semaphorePostAnswer}
-use Rattle.rules.specs.Mutex.{mutexWaitAnswer, mutexPostAnswer}
+use Rattle.rules.specs.Object.{onObject, blockAnswer, waitAnswerOn, objectCreateAnswer, objectDeleteAnswer, objectAbortAnswer}
+use Rattle.rules.specs.Semaphore as semaphore
+use Rattle.rules.specs.Mutex as mutex
 use Rattle.rules.specs.Step.{changes, answerTo, forInterrupts, answer}
 use Rattle.rules.specs.declared.Call.{Call}
 use Rattle.rules.specs.declared.Call.the-variants.{TaskCreate, TaskDelete, ChangePriority, Suspend, Resume, Yield, Delay, DelayResume, Lock, Unlock, Tick, SemaphoreCreate, SemaphoreDelete, SemaphoreWait, SemaphorePost, SemaphoreAbort, MutexCreate, MutexDelete, MutexWait, MutexPost, MutexAbort}
@@ -50,7 +50,7 @@ Presumes Tick t = Unit {0}
 Presumes (SemaphoreCreate s n) t = MayCreate semaphores s t
 Presumes (SemaphoreDelete s force) t = s < semaphoreCount
 Presumes (SemaphoreWait s block limit) t = (t .running ≢ 0) × (s < semaphoreCount) × (semaphoreOf t s .used ≡ 1) × (semaphoreOf t s .count ≡ 0 → t .depth ≡ 0)
-Presumes (SemaphorePost s) t = (s < semaphoreCount) × (semaphoreOf t s .count < mostCount)
+Presumes (SemaphorePost s) t = (s < semaphoreCount) × (semaphoreOf t s .used ≡ 1) × (semaphoreOf t s .count < mostCount)
 Presumes (SemaphoreAbort s) t = MayAbort semaphores s t
 Presumes (MutexCreate m) t = MayCreate mutexes m t
 Presumes (MutexDelete m force) t = m < mutexCount
@@ -129,7 +129,7 @@ module _ {interrupt : Bool} {t : Table} {c : Call} where
   new-one {x} o on = past at-most refl (beyond (inr o)) λ (r : countOf x ≤ numberOf x → ⊥). past equals refl (used o) λ u. on (omega arith) u
 
   -- A wait that finds nothing to take.
-  finds-nothing : {block : ℕ} → FindsNothing t block c → (t .depth ≡ 0 → Presumes c t) → Answers interrupt t c (waitAnswer block t)
+  finds-nothing : {block : ℕ} → FindsNothing t block c → (t .depth ≡ 0 → Presumes c t) → Answers interrupt t c (blockAnswer block t)
   finds-nothing f p = past equals refl (nonBlocking f) λ b. unless equals refl (λ d. lockedWait d f) λ z. record { why = waits f; small = omega arith; holds = λ e. p z }
 
   -- ---- the calls that every family has
@@ -154,7 +154,7 @@ module _ {interrupt : Bool} {t : Table} {c : Call} where
 module _ (interrupt : Bool) (t : Table) where
   -- Each call made by a task.
   pub answers : (c : Call) → Answers interrupt t c (answerTo c t)
-  unfolding countOf numberOf usedIn answerTo createAnswer deleteAnswer priorityAnswer suspendAnswer resumeAnswer yieldAnswer delayAnswer delayResumeAnswer lockAnswer unlockAnswer semaphoreWaitAnswer semaphorePostAnswer mutexWaitAnswer mutexPostAnswer
+  unfolding countOf numberOf usedIn answerTo createAnswer deleteAnswer priorityAnswer suspendAnswer resumeAnswer yieldAnswer delayAnswer delayResumeAnswer lockAnswer unlockAnswer semaphore.waitAnswer semaphore.postAnswer mutex.waitAnswer mutex.postAnswer
   answers (TaskCreate i base quantum) =
       new-one (aTask {i = i}) λ l u.
       past (too-great base quantum) refl (⊎-elim createBase createQuantum) λ v.
@@ -189,7 +189,7 @@ module _ (interrupt : Bool) (t : Table) where
       wait-answers semaphoreWait λ c l u.
       branch at-most (λ (n : 1 ≤ semaphoreOf t s .count). accept (c, l, u, λ z. absurd (omega arith))) λ (n : 1 ≤ semaphoreOf t s .count → ⊥).
       finds-nothing (counted (omega arith)) λ z. (c, l, u, λ e. z)
-  answers (SemaphorePost s) = on-it (semaphorePost {s = s}) λ l u. past at-most refl full λ (n : mostCount ≤ semaphoreOf t s .count → ⊥). accept (l, omega arith)
+  answers (SemaphorePost s) = on-it (semaphorePost {s = s}) λ l u. past at-most refl full λ (n : mostCount ≤ semaphoreOf t s .count → ⊥). accept (l, u, omega arith)
   answers (SemaphoreAbort s) = abort-answers semaphoreAbort λ p. p
   answers (MutexCreate m) = create-answers aMutex λ p. p
   answers (MutexDelete m force) = delete-answers mutexDelete λ l. l

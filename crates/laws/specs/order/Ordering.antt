@@ -5,8 +5,9 @@ use mathlib.Core.Bool.{Bool, true, false, not, false≢true}
 use Prim.Native.Nat.{ℕ, _+_, _-_, _≤_, _<_}
 use native.Mathlib.Omega.{arith}
 use lib.Dec.{ltb}
+use lib.ListN.{length-set}
 use Rattle.rules.specs.Sizes.{taskCount, semaphoreCount, mutexCount, given, aborted, objectDeleted}
-use Rattle.rules.specs.Table.{Table, taskOf, mutexOf, semaphoreOf, queueOf, queueCount, ableQueue, mutexQueue, firstIn, written, noTask, counting, heldBy, withBase, withState, withMutex}
+use Rattle.rules.specs.Table.{Table, taskOf, mutexOf, semaphoreOf, queueOf, queueCount, ableQueue, mutexQueue, firstIn, written, noTask, withCount, withHold, withBase, withState}
 use Rattle.rules.specs.Decides.{equals, itself}
 use Rattle.rules.specs.Move.{put, walk, next, ended}
 use Rattle.rules.specs.Task.{create, delete, changePriority, suspend, resume}
@@ -14,8 +15,9 @@ use Rattle.rules.specs.Time.{callerOf, yield, delay, delayResume}
 use Rattle.rules.specs.Lock.{lock, unlock}
 use Rattle.rules.specs.Family.{Family, waitersOf, semaphores, placeOf}
 use Rattle.rules.specs.Object.{emptied, limited, blocked, waits, taken, abort, objectAbort, objectDelete}
-use Rattle.rules.specs.Semaphore.{semaphoreCreate, semaphoreWait, semaphorePost}
-use Rattle.rules.specs.Mutex.{isHeld, isOwn, mutexCreate, mutexWait, mutexPost}
+use Rattle.rules.specs.Semaphore as semaphore
+use Rattle.rules.specs.Mutex.{withHoldOf, isHeld, isOwn}
+use Rattle.rules.specs.Mutex as mutex
 use Rattle.rules.specs.Kinds.{toldIn, spelled}
 use Rattle.rules.specs.Step.{changeBy, forInterrupts, answer, effect, changes, serve, step}
 use Rattle.rules.specs.Sound.{Sound, SoundQueues}
@@ -28,7 +30,7 @@ use Rattle.laws.specs.queues.Put.{whichever, pick, pick-not, task-put-sa
 use Rattle.laws.specs.queues.Fields.{walk-place}
 use Rattle.laws.specs.chains.Graph.{worked-walk}
 use Rattle.laws.specs.keeps.Becomes.{caller, freed, given-to, released-one}
-use Rattle.laws.specs.queues.Queues.{put-queued, walk-queued, semaphore-queued, mutex-queued}
+use Rattle.laws.specs.queues.Queues.{put-queued, walk-queued, same-queued, mutex-queued}
 use Rattle.laws.specs.keeps.Running.{caller-able, chosen-one}
 use Rattle.laws.specs.numbers.Presumes.{Presumes, accepts}
 use Rattle.laws.specs.keeps.Sounds.{step-serve}
@@ -120,8 +122,8 @@ module _ {q a b : ℕ} (m : q < queueCount) (two : Two a b) where
     ended-kept : (outcome : ℕ) → outcome ≤ objectDeleted → {i : ℕ} → Waiter t i → KeepsOrder q a b t (ended outcome i t)
     ended-kept outcome o w = moved-kept (ended-rises two (sound-before s) w outcome o)
 
-    post-kept : (n : ℕ) → n < semaphoreCount → KeepsOrder q a b t (semaphorePost n t)
-    unfolding semaphorePost
+    post-kept : (n : ℕ) → n < semaphoreCount → KeepsOrder q a b t (semaphore.post n t)
+    unfolding semaphore.post
     post-kept n l = pick-not (KeepsOrder q a b t) equals (λ z. ended-kept given (omega arith) (waiter-of semaphores-lawful (s .settled) n l z)) (λ z. unmoved)
 
     -- Each waiter is let go, and the object goes; the walk from its holder finds all worked out.
@@ -144,27 +146,27 @@ module _ {q a b : ℕ} (m : q < queueCount) (two : Two a b) where
     objectAbort-kept k o l z = ended-kept aborted (omega arith) (waiter-of k (s .settled) o l z)
 
     -- The caller moves, and the mutex goes to the first that waits for it.
-    mutexPost-kept : (n : ℕ) → n < mutexCount → KeepsOrder q a b t (mutexPost n t)
-    unfolding mutexPost
+    mutexPost-kept : (n : ℕ) → n < mutexCount → KeepsOrder q a b t (mutex.post n t)
+    unfolding mutex.post
     mutexPost-kept n l = whichever (KeepsOrder q a b t) (ltb 1 (mutexOf t n .nesting)) (unmoved) (moved-kept (released-one (Moved (Walks free) a b t) n t (λ e. moves) goes))
       where
         free : Table
-        free = withMutex n (heldBy 0 0) t
+        free = withHoldOf n 0 0 t
 
         g : Oneway (Walks free)
         g = walks-oneway free
 
         moves : Moved (Walks free) a b t (freed n t)
-        moves = moved-on two g (same-moved two g t free refl refl) (walk-moved two (callerOf t) (mutex-queued n (heldBy 0 0) queued))
+        moves = moved-on two g (same-moved two g t free refl refl) (walk-moved two (callerOf t) (mutex-queued n _ queued))
 
         goes : firstIn (mutexQueue n) (freed n t) ≢ 0 → Moved (Walks free) a b t (given-to n (firstIn (mutexQueue n) (freed n t)) (freed n t))
         goes z =
             let w = firstIn (mutexQueue n) (freed n t) in
-            let r = walk-queued (callerOf t) (mutex-queued n (heldBy 0 0) queued) in
+            let r = walk-queued (callerOf t) (mutex-queued n _ queued) in
             moved-on two g moves
             (moved-on two g
-            (same-moved two g (freed n t) (withMutex n (heldBy w 1) (freed n t)) refl refl)
-            (put-moved two g (w - 1) _ (mutex-queued n (heldBy w 1) r) (freed-goes g (w - 1) (λ e. omega (arith, first-there r (mutexQueue n) (omega arith) z)) (omega arith) refl)))
+            (same-moved two g (freed n t) (withHoldOf n w 1 (freed n t)) refl refl)
+            (put-moved two g (w - 1) _ (mutex-queued n _ r) (freed-goes g (w - 1) (λ e. omega (arith, first-there r (mutexQueue n) (omega arith) z)) (omega arith) refl)))
 
     -- ---- waits
 
@@ -180,17 +182,17 @@ module _ {q a b : ℕ} (m : q < queueCount) (two : Two a b) where
         chain-kept (callerOf t) k (f .holder t o) queued
         (λ x y. not-able k (λ e. omega (arith, waiting (n .among))) (y ∙ sym x ∙ able-stands (caller t) (caller-able queued (s .runs) r)))
 
-    semaphoreWait-kept : (n limit : ℕ) → t .running ≢ 0 → KeepsOrder q a b t (semaphoreWait n limit t)
-    unfolding semaphoreWait
+    semaphoreWait-kept : (n limit : ℕ) → t .running ≢ 0 → KeepsOrder q a b t (semaphore.wait n limit t)
+    unfolding semaphore.wait
     semaphoreWait-kept n limit r =
-        let x = counting (semaphoreOf t n .count - 1) in
-        whichever (KeepsOrder q a b t) (semaphores .offers t n) (taken-kept (semaphore-queued n x queued)) (waits-kept semaphores-lawful n limit r)
+        let x = withCount (semaphoreOf t n .count - 1) (semaphoreOf t n) in
+        whichever (KeepsOrder q a b t) (semaphores .offers t n) (taken-kept (same-queued queued refl refl (length-set (t .semaphores) n x) refl)) (waits-kept semaphores-lawful n limit r)
 
-    mutexWait-kept : (n limit : ℕ) → t .running ≢ 0 → KeepsOrder q a b t (mutexWait n limit t)
-    unfolding mutexWait
+    mutexWait-kept : (n limit : ℕ) → t .running ≢ 0 → KeepsOrder q a b t (mutex.wait n limit t)
+    unfolding mutex.wait
     mutexWait-kept n limit r =
-        let own = heldBy (written (callerOf t)) 1 in
-        let nested = heldBy (mutexOf t n .holder) (mutexOf t n .nesting + 1) in
+        let own = withHold (written (callerOf t)) 1 (mutexOf t n) in
+        let nested = withHold (mutexOf t n .holder) (mutexOf t n .nesting + 1) (mutexOf t n) in
         whichever (KeepsOrder q a b t) (not (isHeld n t))
         (taken-kept (mutex-queued n own queued))
         (whichever (KeepsOrder q a b t) (isOwn n t) (taken-kept (mutex-queued n nested queued)) (waits-kept mutexes-lawful n limit r))
@@ -200,7 +202,7 @@ module _ {q a b : ℕ} (m : q < queueCount) (two : Two a b) where
     -- Of a call that is accepted; an interrupt's yield is not.
     change-kept : (c : Call) (interrupt : Bool) → changes (answer c interrupt t) ≡ true → Presumes c t
         → (Rotated c interrupt t a → ⊥) → (Rotated c interrupt t b → ⊥) → KeepsOrder q a b t (changeBy c t)
-    unfolding answer toldIn spelled forInterrupts changeBy create suspend resume delay delayResume lock unlock semaphoreCreate mutexCreate
+    unfolding answer toldIn spelled forInterrupts changeBy create suspend resume delay delayResume lock unlock semaphore.create mutex.create
     change-kept (TaskCreate i base quantum) by e h x y = one-kept i _ queued
     change-kept (TaskDelete i) by e h x y = delete-kept i
     change-kept (ChangePriority i base) by e h x y = priority-kept i base
@@ -216,7 +218,7 @@ module _ {q a b : ℕ} (m : q < queueCount) (two : Two a b) where
     change-kept (SemaphoreCreate n v) by e h x y = unmoved
     change-kept (SemaphoreDelete n force) by e l x y = objectDelete-kept semaphores-lawful n l
     change-kept (SemaphoreWait n block limit) by e h x y = semaphoreWait-kept n limit (h .0)
-    change-kept (SemaphorePost n) by e (l, m) x y = post-kept n l
+    change-kept (SemaphorePost n) by e (l, u, m) x y = post-kept n l
     change-kept (SemaphoreAbort n) by e (l, z) x y = objectAbort-kept semaphores-lawful n l z
     change-kept (MutexCreate n) by e h x y = unmoved
     change-kept (MutexDelete n force) by e l x y = objectDelete-kept mutexes-lawful n l

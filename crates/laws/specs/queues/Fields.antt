@@ -3,7 +3,7 @@ use mathlib.Core.Path.{_≡_, refl, sym, ap, _∙_}
 use mathlib.Core.List.{[]}
 use Prim.Native.Nat.{ℕ}
 use lib.ListN.{length, length-set}
-use Rattle.rules.specs.Table.{Table, taskOf, isAble, withWork, withTasks, withSemaphores, withMutexes, withQueues, withTick, withDepth, withRunning}
+use Rattle.rules.specs.Table.{Table, taskOf, isAble, withWork, withTasks, withQueues, withTick, withDepth, withRunning}
 use Rattle.rules.specs.Family.{ofState, placeOf}
 use Rattle.rules.specs.Move.{put, rotate, walk, ended}
 use Rattle.rules.specs.declared.Task.{Task}
@@ -16,7 +16,7 @@ abbrev pub rest : Table → Table
 rest t = withTasks [] (withQueues [] t)
 
 abbrev pub frame : Table → Table
-frame t = withSemaphores [] (withMutexes [] (rest t))
+frame t = record { tasks = []; semaphores = []; mutexes = []; queues = []; tick = t .tick; depth = t .depth; running = t .running }
 
 -- The same lists, in another frame: `withTick`, `withDepth` and `withRunning` are such.
 abbrev pub framed : (tick depth running : ℕ) → Table → Table

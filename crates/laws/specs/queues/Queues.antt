@@ -242,8 +242,5 @@ same-queued {t} {u} s tasks queues semaphores mutexes =
       ordered = rw (tasks, queues) (s .ordered);
     }
 
-pub semaphore-queued : {t : Table} (s : ℕ) (x : Semaphore) → SoundQueues t → SoundQueues (withSemaphore s x t)
-semaphore-queued {t} s x h = same-queued h refl refl (length-set (t .semaphores) s x) refl
-
 pub mutex-queued : {t : Table} (m : ℕ) (x : Mutex) → SoundQueues t → SoundQueues (withMutex m x t)
 mutex-queued {t} m x h = same-queued h refl refl refl (length-set (t .mutexes) m x)

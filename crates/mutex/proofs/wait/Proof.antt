@@ -1,42 +1,51 @@
-use Rattle.rules.specs.Step.{answerTo}
-use Rattle.rules.specs.declared.Call.the-variants.{MutexWait}
-use Rattle.table.specs.Image.{view}
-use Rattle.rules.specs.Mutex.{mutexWaitAnswer}
-use Rattle.service.specs.Serving.{refuse, serve, goes-on, accepted}
-use borrow.Author.Tests.{eqb-true}
+use mathlib.Core.Path.{refl}
+use borrow.Author.Tests.{le-leb, lt-leb, lt-ltb, le-ltb, eq-eqb, ne-eqb}
+use Rattle.rules.specs.Mutex.{waitAnswer}
+use Rattle.service.specs.Serving.{refused}
+use Rattle.object.specs.Told.{told}
 use borrow.Author.Needs.{needs}
 use Rattle.mutex.proofs.wait.Statement.{statement}
 use Rattle.mutex.proofs.wait.Tie as tie
 
 returns : tie.Need-returns
-unfolding mutexWaitAnswer
-returns c = refuse (rw (← c .before .before .before .before .take-answer .ensures, ← c .before .before .before .before .before .before .mutex-at .ensures) (c .before .before .wait-on .ensures)) (c .before .refuses .ensures) (c .if1 .taken)
-
-wait-change-requires : tie.Need-wait-change-requires
-unfolding answerTo mutexWaitAnswer
-wait-change-requires c κs =
-    let e = c .before in
-    let a = e .before .before .before .before .before .before .before .before .before .args in
-    let h = accepted (MutexWait (a .i) (a .block) (a .limit)) (view (a .s .now)) (goes-on {n = mutexWaitAnswer (a .i) (a .block) (view (a .s .now))} {r = e .before .before .wait-on .result} (rw (← e .before .before .before .before .take-answer .ensures, ← e .before .before .before .before .before .before .mutex-at .ensures) (e .before .before .wait-on .ensures)) (e .before .refuses .ensures) (e .if1 .left)) in
-    (h .1, e .before .before .before .before .before .before .before .before .before .pre, λ own held. h .3 (eqb-true _ _ own))
+unfolding waitAnswer
+returns c = refused (rw (← c .before .get-running .ensures, eq-eqb _ _ (c .if1 .taken))) refl
 
 returns-2 : tie.Need-returns-2
-unfolding mutexWaitAnswer
-returns-2 c =
-    let e = c .before .before .before .before .before .before .before .before in
-    serve (rw (← e .before .before .before .before .take-answer .ensures, ← e .before .before .before .before .before .before .mutex-at .ensures) (e .before .before .wait-on .ensures)) (e .before .refuses .ensures) (e .if1 .left) (cc)
+unfolding waitAnswer
+returns-2 c = refused (rw (← c .before .before .get-running .ensures, ne-eqb _ _ (c .before .if1 .left), le-leb _ _ (c .if2 .taken))) refl
+
+returns-3 : tie.Need-returns-3
+unfolding waitAnswer
+returns-3 c = refused (rw (← c .before .before .before .before .before .get-running .ensures, ne-eqb _ _ (c .before .before .before .before .if1 .left), lt-leb _ _ (c .before .before .before .if2 .left), ← c .before .get-used .ensures, c .if3 .taken)) refl
+
+returns-4 : tie.Need-returns-4
+unfolding waitAnswer
+returns-4 c =
+    let u = c .before .before in
+    refused (rw (← u .before .before .before .before .get-running .ensures, ne-eqb _ _ (u .before .before .before .if1 .left), lt-leb _ _ (u .before .before .if2 .left), ← u .get-used .ensures, c .before .if3 .left, lt-ltb _ _ (c .if4 .taken))) refl
+
+returns-5 : tie.Need-returns-5
+unfolding waitAnswer
+returns-5 c =
+    let b = c .before .before .before .before in
+    let u = b .before .before in
+    told (rw (← u .before .before .before .before .get-running .ensures, ne-eqb _ _ (u .before .before .before .if1 .left), lt-leb _ _ (u .before .before .if2 .left), ← u .get-used .ensures, b .before .if3 .left, le-ltb _ _ (b .if4 .left))) refl (c .before .before .take .ensures)
 
 pub wait-spec : {M : Type 1} → statement M
 wait-spec =
     tie.close
     (tie.spec
     (λ c κs. search needs)
-    (λ c κs. search needs)
-    (λ c κs. search needs)
-    (λ c κs. search needs)
     (λ c. search needs)
     returns
-    wait-change-requires
+    (λ c. search needs)
+    returns-2
     (λ c κs. search needs)
     (λ c. search needs)
-    returns-2)
+    returns-3
+    (λ c. search needs)
+    returns-4
+    (λ c κs. search needs)
+    (λ c. search needs)
+    returns-5)

@@ -1,22 +1,26 @@
-use mathlib.Core.Path.{refl}
+use mathlib.Core.Path.{_∙_}
 use Rattle.table.specs.Image.{view}
-use Rattle.service.specs.Places.{same-place, same-work}
-use Rattle.rules.specs.Object.{taken}
+use Rattle.object.proofs.Laws.{taken-none, taken-one}
 use borrow.Author.Needs.{needs}
 use Rattle.object.proofs.take_now.Statement.{statement}
 use Rattle.object.proofs.take_now.Tie as tie
 
-keep-task-requires : tie.Need-keep-task-requires
-keep-task-requires c κs =
-    let t = view (c .before .before .before .before .before .before .args .s .now) in
-    let i = c .before .before .before .caller-of .result in
-    let e = c .before .task-at .ensures in
-    (same-place t i _ _ e refl refl refl refl, same-work t i e, search needs)
-
 returns : tie.Need-returns
-unfolding taken
-returns c = cc
+returns c = taken-none (view (c .before .before .before .before .args .s .now)) (c .before .caller-of .ensures .0) (c .if1 .taken)
+
+returns-2 : tie.Need-returns-2
+returns-2 c =
+    let e = c .before .before .before .before in
+    let i = e .before in
+    c .before .before .set-outcome .ensures ∙ taken-one (view (i .before .before .before .args .s .now)) (i .caller-of .ensures .0) (e .if1 .left)
 
 pub take-now-spec : {M : Type 1} → statement M
 take-now-spec =
-    tie.close (tie.spec (λ c κs. search needs) (λ c κs. search needs) keep-task-requires (λ c. search needs) returns)
+    tie.close
+    (tie.spec
+    (λ c κs. search needs)
+    (λ c. search needs)
+    returns
+    (λ c κs. search needs)
+    (λ c. search needs)
+    returns-2)

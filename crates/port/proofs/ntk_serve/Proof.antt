@@ -1,5 +1,5 @@
 use Rattle.port.specs.Ways.{serve-wrong, serve-by-six}
-use Rattle.port.proofs.Laws.{gives-by, gives-unsound}
+use Rattle.port.proofs.Laws.{gives-by, gives-answered, gives-unsound}
 use borrow.Author.Needs.{needs}
 use Rattle.port.proofs.ntk_serve.Statement.{statement}
 use Rattle.port.proofs.ntk_serve.Tie as tie
@@ -11,10 +11,11 @@ returns c =
 
 returns-2 : tie.Need-returns-2
 returns-2 c =
-    let e = c .before .before .before .before in
+    let p = c .before .before .before .before in
+    let e = p .before .before in
     let a = e .before .before .args in
-    gives-by (serve-by-six (a .kind) (a .a) (a .b) (a .c) (a .image .now) (e .if1 .left)) (c .before .before .serve-plainly .ensures)
+    gives-by (serve-by-six (a .kind) (a .a) (a .b) (a .c) (a .image .now) (e .if1 .left)) (gives-answered (p .serve-plainly .ensures) (c .answered .ensures .0) (c .answered .ensures .1))
 
 pub ntk-serve-spec : {M : Type 1} → statement M
 ntk-serve-spec =
-    tie.close (tie.spec (λ c κs. search needs) returns (λ c κs. search needs) (λ c. search needs) returns-2)
+    tie.close (tie.spec (λ c κs. search needs) returns (λ c κs. search needs) (λ c κs. search needs) (λ c. search needs) returns-2)

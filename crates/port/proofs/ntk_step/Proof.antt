@@ -1,7 +1,7 @@
 use borrow.Author.Tests.{not-true, not-false}
 use mathlib.Core.Path.{sym, _∙_}
 use Rattle.port.specs.Ways.{step-wrong, step-unsound, step-by-six}
-use Rattle.port.proofs.Laws.{gives-by, gives-unsound}
+use Rattle.port.proofs.Laws.{gives-by, gives-answered, gives-unsound}
 use borrow.Author.Needs.{needs}
 use Rattle.port.proofs.ntk_step.Statement.{statement}
 use Rattle.port.proofs.ntk_step.Tie as tie
@@ -20,11 +20,12 @@ returns-2 c =
 
 returns-3 : tie.Need-returns-3
 returns-3 c =
-    let f = c .before .before .before .before in
+    let p = c .before .before .before .before in
+    let f = p .before .before in
     let s = f .before in
     let e = s .before .before in
     let a = e .before .before .args in
-    gives-by (step-by-six (a .kind) (a .a) (a .b) (a .c) (a .image .now) (e .if1 .left) (sym (s .is-sound .ensures) ∙ not-false _ (f .if2 .left))) (c .before .before .serve-plainly .ensures)
+    gives-by (step-by-six (a .kind) (a .a) (a .b) (a .c) (a .image .now) (e .if1 .left) (sym (s .is-sound .ensures) ∙ not-false _ (f .if2 .left))) (gives-answered (p .serve-plainly .ensures) (c .answered .ensures .0) (c .answered .ensures .1))
 
 pub ntk-step-spec : {M : Type 1} → statement M
 ntk-step-spec =
@@ -36,6 +37,7 @@ ntk-step-spec =
     (λ c κs. search needs)
     (λ c. search needs)
     returns-2
+    (λ c κs. search needs)
     (λ c κs. search needs)
     (λ c. search needs)
     returns-3)

@@ -1,58 +1,51 @@
-use native.Mathlib.Omega.{arith}
-use borrow.Author.Tests.{lt-ltb, le-ltb}
-use Rattle.rules.specs.Step.{answerTo}
-use Rattle.rules.specs.declared.Call.the-variants.{SemaphoreWait}
-use Rattle.rules.specs.Walk.{walkOn}
-use Rattle.rules.specs.Object.{waits}
-use Rattle.rules.specs.Semaphore.{semaphoreWaitAnswer, semaphoreWait}
-use Rattle.table.specs.Image.{view}
-use Rattle.service.specs.Serving.{refuse, serve, goes-on, accepted}
+use mathlib.Core.Path.{refl}
+use borrow.Author.Tests.{le-leb, lt-leb, lt-ltb, le-ltb, eq-eqb, ne-eqb}
+use Rattle.rules.specs.Semaphore.{waitAnswer}
+use Rattle.service.specs.Serving.{refused}
+use Rattle.object.specs.Told.{told}
 use borrow.Author.Needs.{needs}
 use Rattle.semaphore.proofs.wait.Statement.{statement}
 use Rattle.semaphore.proofs.wait.Tie as tie
 
 returns : tie.Need-returns
-unfolding semaphoreWaitAnswer
-returns c = refuse (rw (← c .before .before .before .before .before .before .semaphore-at .ensures, ← c .before .before .before .before .take-answer .ensures) (c .before .before .wait-on .ensures)) (c .before .refuses .ensures) (c .if1 .taken)
+unfolding waitAnswer
+returns c = refused (rw (← c .before .get-running .ensures, eq-eqb _ _ (c .if1 .taken))) refl
 
 returns-2 : tie.Need-returns-2
-unfolding semaphoreWaitAnswer semaphoreWait
-returns-2 c =
-    let b = c .before .before .before .before .before .before .before .before .before .before .before .before .before in
-    serve (rw (← b .before .before .before .before .before .before .before .before .semaphore-at .ensures, ← b .before .before .before .before .before .before .take-answer .ensures) (b .before .before .before .before .wait-on .ensures)) (b .before .before .before .refuses .ensures) (b .before .before .if1 .left) (rw (rw (b .before .before .before .before .before .before .before .before .semaphore-at .ensures) at (lt-ltb _ _ (b .if2 .taken))) (cc))
-
-cast-block-on : tie.Need-cast-block-on
-unfolding answerTo semaphoreWaitAnswer
-cast-block-on c =
-    let b = c .before .before .before in
-    let a = b .before .before .before .before .before .before .before .before .before .args in
-    let h = accepted (SemaphoreWait (a .i) (a .block) (a .limit)) (view (a .s .now)) (goes-on {n = semaphoreWaitAnswer (a .i) (a .block) (view (a .s .now))} {r = b .before .before .wait-on .result} (rw (← b .before .before .before .before .before .before .semaphore-at .ensures, ← b .before .before .before .before .take-answer .ensures) (b .before .before .wait-on .ensures)) (b .before .refuses .ensures) (b .if1 .left)) in
-    omega (arith, h .1)
+unfolding waitAnswer
+returns-2 c = refused (rw (← c .before .before .get-running .ensures, ne-eqb _ _ (c .before .if1 .left), le-leb _ _ (c .if2 .taken))) refl
 
 returns-3 : tie.Need-returns-3
-unfolding semaphoreWaitAnswer semaphoreWait waits walkOn
-returns-3 c =
-    let b = c .before .before .before .before .before .before .before .before in
-    serve (rw (← b .before .before .before .before .before .before .before .before .semaphore-at .ensures, ← b .before .before .before .before .before .before .take-answer .ensures) (b .before .before .before .before .wait-on .ensures)) (b .before .before .before .refuses .ensures) (b .before .before .if1 .left) (rw (rw (b .before .before .before .before .before .before .before .before .semaphore-at .ensures) at (le-ltb _ _ (b .if2 .left))) (cc))
+unfolding waitAnswer
+returns-3 c = refused (rw (← c .before .before .before .before .before .get-running .ensures, ne-eqb _ _ (c .before .before .before .before .if1 .left), lt-leb _ _ (c .before .before .before .if2 .left), ← c .before .get-used .ensures, c .if3 .taken)) refl
+
+returns-4 : tie.Need-returns-4
+unfolding waitAnswer
+returns-4 c =
+    let u = c .before .before in
+    refused (rw (← u .before .before .before .before .get-running .ensures, ne-eqb _ _ (u .before .before .before .if1 .left), lt-leb _ _ (u .before .before .if2 .left), ← u .get-used .ensures, c .before .if3 .left, lt-ltb _ _ (c .if4 .taken))) refl
+
+returns-5 : tie.Need-returns-5
+unfolding waitAnswer
+returns-5 c =
+    let b = c .before .before .before .before in
+    let u = b .before .before in
+    told (rw (← u .before .before .before .before .get-running .ensures, ne-eqb _ _ (u .before .before .before .if1 .left), lt-leb _ _ (u .before .before .if2 .left), ← u .get-used .ensures, b .before .if3 .left, le-ltb _ _ (b .if4 .left))) refl (c .before .before .take .ensures)
 
 pub wait-spec : {M : Type 1} → statement M
 wait-spec =
     tie.close
     (tie.spec
     (λ c κs. search needs)
-    (λ c κs. search needs)
-    (λ c κs. search needs)
-    (λ c κs. search needs)
     (λ c. search needs)
     returns
     (λ c. search needs)
-    (λ c κs. search needs)
-    (λ c κs. search needs)
-    (λ c κs. search needs)
-    (λ c. search needs)
     returns-2
-    cast-block-on
-    (λ c κs. search needs)
     (λ c κs. search needs)
     (λ c. search needs)
-    returns-3)
+    returns-3
+    (λ c. search needs)
+    returns-4
+    (λ c κs. search needs)
+    (λ c. search needs)
+    returns-5)

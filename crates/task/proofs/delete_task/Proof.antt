@@ -1,7 +1,6 @@
 use mathlib.Core.Path.{refl}
 use borrow.Author.Tests.{le-leb, lt-leb}
 use Rattle.rules.specs.Task.{deleteAnswer, delete}
-use Rattle.service.specs.Places.{free-nowhere}
 use Rattle.service.specs.Serving.{refused, served}
 use borrow.Author.Needs.{needs}
 use Rattle.task.proofs.delete_task.Statement.{statement}
@@ -13,24 +12,23 @@ returns c = refused (rw (le-leb _ _ (c .if1 .taken))) refl
 
 returns-2 : tie.Need-returns-2
 unfolding deleteAnswer
-returns-2 c = refused (rw (lt-leb _ _ (c .before .before .before .before .if1 .left), ← c .before .before .task-at .ensures, c .if2 .taken)) refl
+returns-2 c = refused (rw (lt-leb _ _ (c .before .before .before .if1 .left), ← c .before .get-used .ensures, c .if2 .taken)) refl
 
 returns-3 : tie.Need-returns-3
 unfolding deleteAnswer
-returns-3 c = refused (rw (lt-leb _ _ (c .before .before .before .before .before .before .before .if1 .left), ← c .before .before .before .before .before .task-at .ensures, c .before .before .before .if2 .left, ← c .before .runs-locked .ensures, c .if3 .taken)) refl
+returns-3 c = refused (rw (lt-leb _ _ (c .before .before .before .before .before .before .if1 .left), ← c .before .before .before .before .get-used .ensures, c .before .before .before .if2 .left, ← c .before .runs-locked .ensures, c .if3 .taken)) refl
 
 returns-4 : tie.Need-returns-4
 unfolding deleteAnswer
-returns-4 c = refused (rw (lt-leb _ _ (c .before .before .before .before .before .before .before .before .before .before .if1 .left), ← c .before .before .before .before .before .before .before .before .task-at .ensures, c .before .before .before .before .before .before .if2 .left, ← c .before .before .before .before .runs-locked .ensures, c .before .before .before .if3 .left, ← c .before .holds-any .ensures, c .if4 .taken)) refl
-
-take-out-requires : tie.Need-take-out-requires
-take-out-requires c κs = (free-nowhere _ (c .no-task .ensures), search needs)
+returns-4 c =
+    let b = c .before .before .before .before .before .before in
+    refused (rw (lt-leb _ _ (b .before .before .before .if1 .left), ← b .before .get-used .ensures, b .if2 .left, ← c .before .before .before .before .runs-locked .ensures, c .before .before .before .if3 .left, ← c .before .holds-any .ensures, c .if4 .taken)) refl
 
 returns-5 : tie.Need-returns-5
 unfolding deleteAnswer delete
 returns-5 c =
-    let b = c .before .before .before .before .before .before .before .before .before .before .before .before .before .before .before in
-    served (rw (lt-leb _ _ (b .before .before .before .before .before .before .before .before .before .before .if1 .left), ← b .before .before .before .before .before .before .before .before .task-at .ensures, b .before .before .before .before .before .before .if2 .left, ← b .before .before .before .before .runs-locked .ensures, b .before .before .before .if3 .left, ← b .before .holds-any .ensures, b .if4 .left)) refl (cc)
+    let b = c .before .before .before .before .before .before .before .before .before .before .before .before .before .before in
+    served (rw (lt-leb _ _ (b .before .before .before .before .before .before .before .before .before .if1 .left), ← b .before .before .before .before .before .before .before .get-used .ensures, b .before .before .before .before .before .before .if2 .left, ← b .before .before .before .before .runs-locked .ensures, b .before .before .before .if3 .left, ← b .before .holds-any .ensures, b .if4 .left)) refl (cc)
 
 pub delete-task-spec : {M : Type 1} → statement M
 delete-task-spec =
@@ -48,7 +46,6 @@ delete-task-spec =
     returns-4
     (λ c κs. search needs)
     (λ c κs. search needs)
-    take-out-requires
     (λ c κs. search needs)
     (λ c κs. search needs)
     (λ c. search needs)

@@ -1,10 +1,9 @@
-use mathlib.Core.Path.{_≡_, sym, ap, _∙_}
+use mathlib.Core.Path.{_≡_, sym, _∙_}
 use mathlib.Core.Bool.{false}
 use Prim.Native.Nat.{_≤_, _-_}
 use native.Mathlib.Omega.{arith}
 use native.Mathlib.Nat.{le-antisymm}
 use Rattle.rules.specs.Task.{holdsBelow}
-use Rattle.rules.specs.declared.Mutex.{Mutex}
 use Rattle.table.specs.Image.{view}
 use Rattle.task.proofs.Laws.{holds-none, holds-later, holds-found}
 use borrow.Author.Needs.{needs}
@@ -24,23 +23,16 @@ loop-holds c =
 
 returns : tie.Need-returns Inv-loop μ-loop
 returns c =
-    let x = c .before .before in
-    let b = x .before .before in
-    let a = b .before .before .args in
-    holds-found (a .i) (view (a .s .now)) 16 (b .loop .m) (x .before .loop-test .taken) (ap (λ (y : Mutex). y .holder) (sym (x .mutex-at .ensures)) ∙ c .if1 .taken)
+    let a = c .before .before .before .before .before .args in
+    holds-found (a .i) (view (a .s .now)) 16 (c .before .before .before .loop .m) (c .before .before .loop-test .taken) (sym (c .before .get-holder .ensures) ∙ c .if1 .taken)
 
 loop-again : tie.Need-loop-again Inv-loop μ-loop
 loop-again c =
-    let x = c .before .before in
-    let b = x .before .before in
-    let a = b .before .before .args in
-    (omega arith, holds-later (a .i) (view (a .s .now)) (b .loop .m) (λ z. c .if1 .left (ap (λ (y : Mutex). y .holder) (x .mutex-at .ensures) ∙ z)) (b .loop .inv .1))
+    let a = c .before .before .before .before .before .args in
+    (omega arith, holds-later (a .i) (view (a .s .now)) (c .before .before .before .loop .m) (λ z. c .if1 .left (c .before .get-holder .ensures ∙ z)) (c .before .before .before .loop .inv .1))
 
 returns-2 : tie.Need-returns-2 Inv-loop μ-loop
-returns-2 c =
-    let b = c .before in
-    let a = b .before .before .args in
-    sym (rw (le-antisymm (b .loop .inv .0) (c .loop-test .left)) at (b .loop .inv .1))
+returns-2 c = sym (rw (le-antisymm (c .before .loop .inv .0) (c .loop-test .left)) at (c .before .loop .inv .1))
 
 pub holds-any-spec : {M : Type 1} → statement M
 holds-any-spec =
@@ -53,7 +45,7 @@ holds-any-spec =
     (λ c. search needs)
     (λ c. search needs)
     returns
-    (λ c. omega arith)
+    (λ c. search needs)
     (λ c. omega arith)
     loop-again
     returns-2)

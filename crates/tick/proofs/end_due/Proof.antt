@@ -15,20 +15,18 @@ returns c =
 returns-2 : tie.Need-returns-2
 returns-2 c =
     let t = c .before .before .before .before in
-    let k = t .before .before in
-    let e = k .before .before in
+    let e = t .before .before .before in
     let d = e .before in
     let a = d .before .before .before .args in
-    c .before .before .end-wait .ensures ∙ due-delay (a .i) (view (a .s .now)) (sym (d .is-due .ensures) ∙ not-false (d .is-due .result) (e .if1 .left)) (rw (k .task-at .ensures) at (t .if2 .taken))
+    c .before .before .end-wait .ensures ∙ due-delay (a .i) (view (a .s .now)) (sym (d .is-due .ensures) ∙ not-false (d .is-due .result) (e .if1 .left)) (sym (t .before .get-state .ensures) ∙ t .if2 .taken)
 
 returns-3 : tie.Need-returns-3
 returns-3 c =
     let t = c .before .before .before .before in
-    let k = t .before .before in
-    let e = k .before .before in
+    let e = t .before .before .before in
     let d = e .before in
     let a = d .before .before .before .args in
-    c .before .before .end-wait2 .ensures ∙ due-wait (a .i) (view (a .s .now)) (sym (d .is-due .ensures) ∙ not-false (d .is-due .result) (e .if1 .left)) (rw (k .task-at .ensures) at (t .if2 .left))
+    c .before .before .end-wait2 .ensures ∙ due-wait (a .i) (view (a .s .now)) (sym (d .is-due .ensures) ∙ not-false (d .is-due .result) (e .if1 .left)) (λ z. t .if2 .left (t .before .get-state .ensures ∙ z))
 
 pub end-due-spec : {M : Type 1} → statement M
 end-due-spec =

@@ -6,4 +6,8 @@ returns : tie.Need-returns
 returns c = cc
 
 pub is-at-spec : {M : Type 1} → statement M
-is-at-spec = tie.close (tie.spec (λ c κs. search needs) returns)
+is-at-spec =
+    tie.close
+    (tie.spec
+    (λ c κs. search needs)
+    returns)

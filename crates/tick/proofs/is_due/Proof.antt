@@ -6,4 +6,10 @@ returns : tie.Need-returns
 returns c = cc
 
 pub is-due-spec : {M : Type 1} → statement M
-is-due-spec = tie.close (tie.spec (λ c κs. search needs) (λ c κs. search needs) returns)
+is-due-spec =
+    tie.close
+    (tie.spec
+    (λ c κs. search needs)
+    (λ c κs. search needs)
+    (λ c κs. search needs)
+    returns)

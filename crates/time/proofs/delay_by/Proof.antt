@@ -1,7 +1,6 @@
 use mathlib.Core.Path.{refl}
 use borrow.Author.Tests.{eq-eqb, ne-eqb}
 use Rattle.rules.specs.Time.{delayAnswer, delay}
-use Rattle.service.specs.Places.{delayed-nowhere}
 use Rattle.service.specs.Serving.{refused, served}
 use borrow.Author.Needs.{needs}
 use Rattle.time.proofs.delay_by.Statement.{statement}
@@ -19,13 +18,10 @@ returns-3 : tie.Need-returns-3
 unfolding delayAnswer
 returns-3 c = refused (rw (← c .before .before .before .before .before .get-running .ensures, ne-eqb _ _ (c .before .before .before .before .if1 .left), ne-eqb _ _ (c .before .before .before .if2 .left), ← c .before .get-depth .ensures, c .if3 .taken)) refl
 
-take-out-requires : tie.Need-take-out-requires
-take-out-requires c κs = (delayed-nowhere _ refl, search needs)
-
 returns-4 : tie.Need-returns-4
 unfolding delayAnswer delay
 returns-4 c =
-    let b = c .before .before .before .before .before .before .before .before .before .before .before .before .before .before in
+    let b = c .before .before .before .before .before .before .before .before .before .before .before .before in
     served (rw (← b .before .before .before .before .before .get-running .ensures, ne-eqb _ _ (b .before .before .before .before .if1 .left), ne-eqb _ _ (b .before .before .before .if2 .left), ← b .before .get-depth .ensures, b .if3 .left)) refl (cc)
 
 pub delay-by-spec : {M : Type 1} → statement M
@@ -43,7 +39,6 @@ delay-by-spec =
     (λ c κs. search needs)
     (λ c κs. search needs)
     (λ c κs. search needs)
-    take-out-requires
     (λ c κs. search needs)
     (λ c. search needs)
     returns-4)

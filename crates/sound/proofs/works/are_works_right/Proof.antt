@@ -8,9 +8,6 @@ carry-all-requires : tie.Need-carry-all-requires
 unfolding isBlank
 carry-all-requires c κs = (c .before .before .pre, none-given _ refl refl)
 
-returns : tie.Need-returns
-returns c = search needs
-
 pub are-works-right-spec : {M : Type 1} → statement M
 are-works-right-spec =
     tie.close
@@ -19,4 +16,4 @@ are-works-right-spec =
     carry-all-requires
     (λ c. search needs)
     (λ c κs. search needs)
-    returns)
+    (λ c. search needs))

@@ -1,8 +1,9 @@
-use mathlib.Core.Path.{_≡_}
+use mathlib.Core.Path.{_≡_, sym, _∙_}
 use mathlib.Core.Bool.{true, false}
 use borrow.Author.Tests.{eq-eqb, ne-eqb}
-use Rattle.rules.specs.Table.{isAble}
+use Rattle.rules.specs.Table.{isAble, taskOf}
 use Rattle.rules.specs.Family.{ofState, placeOf}
+use Rattle.table.specs.Image.{view}
 use borrow.Author.Needs.{needs}
 use Rattle.table.proofs.moves.place_of.Statement.{statement}
 use Rattle.table.proofs.moves.place_of.Tie as tie
@@ -10,29 +11,30 @@ use Rattle.table.proofs.moves.place_of.Tie as tie
 returns : tie.Need-returns
 unfolding placeOf ofState
 returns c =
-    let h : isAble (c .before .before .args .k) ≡ true = cc in
+    let a = c .before .before .before .args in
+    let h : isAble (taskOf (view (a .s .now)) (a .i)) ≡ true = cc in
     rw h
 
 returns-2 : tie.Need-returns-2
 unfolding placeOf ofState
 returns-2 c =
-    let k = c .before .before .before .before .before .args .k in
-    let h : isAble k ≡ false = cc in
-    rw (h, eq-eqb (k .state) 2 (c .before .if2 .taken))
+    let a = c .before .before .before .before .before .before .args in
+    let h : isAble (taskOf (view (a .s .now)) (a .i)) ≡ false = cc in
+    rw (h, ← c .before .before .get-state .ensures, ← c .before .get-object .ensures, eq-eqb _ _ (c .if2 .taken))
 
 returns-3 : tie.Need-returns-3
 unfolding placeOf ofState
 returns-3 c =
-    let k = c .before .before .before .before .before .before .before .args .k in
-    let h : isAble k ≡ false = cc in
-    rw (h, ne-eqb (k .state) 2 (c .before .before .before .if2 .left), eq-eqb (k .state) 3 (c .before .if3 .taken))
+    let a = c .before .before .before .before .before .before .before .args in
+    let h : isAble (taskOf (view (a .s .now)) (a .i)) ≡ false = cc in
+    rw (h, ← c .before .before .before .get-state .ensures, ← c .before .before .get-object .ensures, ne-eqb _ _ (c .before .if2 .left), eq-eqb _ _ (c .if3 .taken))
 
 returns-4 : tie.Need-returns-4
 unfolding placeOf ofState
 returns-4 c =
-    let k = c .before .before .before .before .before .before .args .k in
-    let h : isAble k ≡ false = cc in
-    rw (h, ne-eqb (k .state) 2 (c .before .before .if2 .left), ne-eqb (k .state) 3 (c .if3 .left))
+    let a = c .before .before .before .before .before .before .before .args in
+    let h : isAble (taskOf (view (a .s .now)) (a .i)) ≡ false = cc in
+    rw (h, ← c .before .before .before .get-state .ensures, ne-eqb _ _ (c .before .if2 .left), ne-eqb _ _ (c .if3 .left))
 
 pub place-of-spec : {M : Type 1} → statement M
 place-of-spec =
@@ -40,6 +42,8 @@ place-of-spec =
     (tie.spec
     (λ c κs. search needs)
     returns
+    (λ c κs. search needs)
+    (λ c κs. search needs)
     (λ c. search needs)
     (λ c. search needs)
     returns-2

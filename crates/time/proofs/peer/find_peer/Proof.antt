@@ -1,10 +1,9 @@
-use mathlib.Core.Path.{_≡_, sym, ap, _∙_}
+use mathlib.Core.Path.{_≡_, sym, _∙_}
 use Prim.Native.Nat.{_≤_, suc, _-_}
 use native.Mathlib.Omega.{arith}
 use Rattle.table.specs.Image.{view}
 use Rattle.rules.specs.Move.{peerBelow}
 use Rattle.time.proofs.PeerLaws.{peer-turn, peer-none}
-use Rattle.rules.specs.declared.Task.{Task}
 use borrow.Author.Needs.{needs}
 use Rattle.time.proofs.peer.find_peer.Statement.{statement}
 use Rattle.time.proofs.peer.find_peer.Tie as tie
@@ -17,21 +16,19 @@ abbrev μ-loop : tie.MeasureT-loop
 
 returns : tie.Need-returns Inv-loop μ-loop
 returns c =
-    let p = c .before in
-    let l = p .before .before in
-    let s : l .loop .j ≡ suc (l .loop .j - 1) = omega arith in
-    let a = l .before .before .before .args in
-    let turn = peer-turn _ _ (a .i) _ (view (a .s .now)) s (ap (λ (k : Task). k .work) (l .before .task-at .ensures)) (p .is-peer .ensures) in
-    sym (rw (c .if1 .taken) at turn) ∙ l .loop .inv .1
+    let l = c .before .before .before .loop in
+    let s : l .j ≡ suc (l .j - 1) = omega arith in
+    let a = c .before .before .before .before .before .before .args in
+    let turn = peer-turn _ _ (a .i) _ (view (a .s .now)) s (c .before .before .before .before .work-of .ensures) (c .before .is-peer .ensures) in
+    sym (rw (c .if1 .taken) at turn) ∙ l .inv .1
 
 loop-again : tie.Need-loop-again Inv-loop μ-loop
 loop-again c =
-    let p = c .before in
-    let l = p .before .before in
-    let s : l .loop .j ≡ suc (l .loop .j - 1) = omega arith in
-    let a = l .before .before .before .args in
-    let turn = peer-turn _ _ (a .i) _ (view (a .s .now)) s (ap (λ (k : Task). k .work) (l .before .task-at .ensures)) (p .is-peer .ensures) in
-    (omega arith, sym (rw (c .if1 .left) at turn) ∙ l .loop .inv .1)
+    let l = c .before .before .before .loop in
+    let s : l .j ≡ suc (l .j - 1) = omega arith in
+    let a = c .before .before .before .before .before .before .args in
+    let turn = peer-turn _ _ (a .i) _ (view (a .s .now)) s (c .before .before .before .before .work-of .ensures) (c .before .is-peer .ensures) in
+    (omega arith, sym (rw (c .if1 .left) at turn) ∙ l .inv .1)
 
 returns-2 : tie.Need-returns-2 Inv-loop μ-loop
 returns-2 c = sym (peer-none _ _ _ (c .loop-test .left)) ∙ c .before .loop .inv .1
@@ -47,6 +44,6 @@ find-peer-spec =
     (λ c. search needs)
     (λ c κs. search needs)
     returns
-    (λ c. search needs)
+    (λ c. omega arith)
     loop-again
     returns-2)

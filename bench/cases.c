@@ -1,0 +1,249 @@
+/* cases.c: see cases.h. */
+#include "cases.h"
+
+#include <stdio.h>
+#include <stdlib.h>
+
+enum { MOST_CASES = 1200, SAMPLES = 10 };
+
+struct one_case *cases;
+unsigned case_count;
+
+static void add_case(const char *name, const struct plain *k, const struct call *c)
+{
+    if (case_count == MOST_CASES)
+        failed("too many cases");
+    make_case(&cases[case_count++], name, k, *c);
+}
+
+/* Plays a sequence through all variants, compares them, and keeps the tables before some calls of each kind. */
+static void verify(const struct sequence *s)
+{
+    static struct table tables[VARIANTS];
+    unsigned v, seen[256] = {0}, total[256] = {0};
+    char name[64];
+    size_t n;
+
+    for (v = 0; v < VARIANTS; v++)
+        make_fresh(&tables[v]);
+    for (n = 0; n < s->length; n++)
+        total[s->calls[n].kind & 0x7F]++;
+    for (n = 0; n < s->length; n++) {
+        unsigned kind = s->calls[n].kind & 0x7F, apart = total[kind] / SAMPLES + 1;
+        if (seen[kind]++ % apart == apart / 2) {
+            snprintf(name, sizeof name, "call %lu of %s", (unsigned long)n, s->name);
+            add_case(name, &tables[PLAIN].plain, &s->calls[n]);
+        }
+        compare(&s->calls[n], tables, s->name, n);
+    }
+}
+
+/* Cases that are built */
+
+static struct plain built;
+
+static void make(unsigned kind, uint32_t a, uint32_t b, uint32_t c)
+{
+    must(&built, kind, a, b, c);
+}
+
+static void bad_case(const char *name, unsigned kind, uint32_t a, uint32_t b, uint32_t c)
+{
+    struct call call = {(uint8_t)kind, a, b, c};
+
+    add_case(name, &built, &call);
+}
+
+/* 32 able tasks, all equal; task 0 runs. */
+static void build_equals(void)
+{
+    unsigned i;
+
+    plain_fresh(&built);
+    for (i = 0; i < 32; i++)
+        make(NTK_TASK_CREATE, i, 30, 1);
+    bad_case("32 equals", NTK_YIELD, 0, 0, 0);
+    bad_case("32 equals, the turn ends", NTK_TICK, 0, 0, 0);
+    bad_case("32 equals, the first goes last", NTK_CHANGE_PRIORITY, 0, 31, 0);
+    bad_case("32 equals, the last goes first", NTK_CHANGE_PRIORITY, 31, 29, 0);
+    bad_case("the first of 32", NTK_SUSPEND, 0, 0, 0);
+    bad_case("the first of 32", NTK_TASK_DELETE, 0, 0, 0);
+    bad_case("the first of 32", NTK_DELAY, 5, 0, 0);
+    bad_case("32 equals", NTK_LOCK, 0, 0, 0);
+    make(NTK_LOCK, 0, 0, 0);
+    bad_case("32 equals", NTK_UNLOCK, 0, 0, 0);
+    make(NTK_UNLOCK, 0, 0, 0);
+    make(NTK_TASK_DELETE, 31, 0, 0);
+    bad_case("the 32nd, before all", NTK_TASK_CREATE, 31, 5, 0);
+    bad_case("31 able tasks", NTK_SEMAPHORE_CREATE, 15, 7, 0);
+    bad_case("31 able tasks", NTK_MUTEX_CREATE, 15, 0, 0);
+    make(NTK_TASK_CREATE, 31, 5, 0);
+    make(NTK_SUSPEND, 31, 0, 0);
+    bad_case("before 31 able tasks", NTK_RESUME, 31, 0, 0);
+    make(NTK_RESUME, 31, 0, 0);
+    make(NTK_DELAY, 9, 0, 0);
+    bad_case("before 31 able tasks", NTK_DELAY_RESUME, 31, 0, 0);
+    make(NTK_DELAY_RESUME, 31, 0, 0);
+    make(NTK_SEMAPHORE_CREATE, 15, 0, 0);
+    make(NTK_SEMAPHORE_WAIT, 15, 1, 0);
+    bad_case("before 31 able tasks", NTK_SEMAPHORE_POST, 15, 0, 0);
+    bad_case("before 31 able tasks", NTK_SEMAPHORE_ABORT, 15, 0, 0);
+}
+
+/* 31 tasks wait for a semaphore; one runs. */
+static void build_waiters(void)
+{
+    unsigned i;
+
+    plain_fresh(&built);
+    make(NTK_SEMAPHORE_CREATE, 0, 0, 0);
+    for (i = 0; i < 31; i++) {
+        make(NTK_TASK_CREATE, i, 60 - i, 0);
+        make(NTK_SEMAPHORE_WAIT, 0, 1, 1);
+    }
+    make(NTK_TASK_CREATE, 31, 10, 0);
+    bad_case("the 32nd waiter, before all", NTK_SEMAPHORE_WAIT, 0, 1, 5);
+    bad_case("31 waiters time out", NTK_TICK, 0, 0, 0);
+    bad_case("31 waiters, forced", NTK_SEMAPHORE_DELETE, 0, 1, 0);
+}
+
+/* 32 tasks sleep until the same tick. */
+static void build_sleepers(void)
+{
+    unsigned i;
+
+    plain_fresh(&built);
+    for (i = 0; i < 32; i++) {
+        make(NTK_TASK_CREATE, i, 60 - i, 0);
+        make(NTK_DELAY, 1, 0, 0);
+    }
+    bad_case("32 delays end", NTK_TICK, 0, 0, 0);
+}
+
+/* Link i of a chain holds mutex i and waits for mutex i - 1; the further it is from link 0, which waits for nothing, the more urgent
+ * it is, and the lower its number. All 16 mutexes; the links have the numbers 16 down to 1, and 0 is for a task behind them. */
+static unsigned link_number(unsigned i)
+{
+    return 16 - i;
+}
+
+static void build_links(uint32_t limit)
+{
+    unsigned i;
+
+    plain_fresh(&built);
+    for (i = 0; i < 16; i++) {
+        make(NTK_TASK_CREATE, link_number(i), 60 - i, 0);
+        make(NTK_MUTEX_CREATE, i, 0, 0);
+        make(NTK_MUTEX_WAIT, i, 1, 0);
+        if (i > 0)
+            make(NTK_MUTEX_WAIT, i - 1, 1, limit);
+    }
+}
+
+static void build_chain(int others, uint32_t limit)
+{
+    const char *name = others ? "chain of 17, others in its queues" : "chain of 17";
+    unsigned i;
+
+    build_links(limit);
+    for (i = 0; others && i < 15; i++) { /* each stands before a link, until something more urgent comes along */
+        make(NTK_TASK_CREATE, 17 + i, 40, 0);
+        make(NTK_MUTEX_WAIT, i, 1, limit);
+    }
+    for (i = 0; !others && i < 15; i++) {
+        make(NTK_TASK_CREATE, 17 + i, 30 - i, 0);
+        make(NTK_DELAY, 1, 0, 0);
+    }
+    make(NTK_TASK_CREATE, 0, 5, 0);
+    bad_case(name, NTK_MUTEX_WAIT, 15, 1, 0);
+    make(NTK_MUTEX_WAIT, 15, 1, 1);
+    bad_case(name, NTK_CHANGE_PRIORITY, 0, 50, 0);
+    bad_case(name, NTK_CHANGE_PRIORITY, 0, 1, 0);
+    bad_case(name, NTK_TASK_DELETE, 0, 0, 0);
+    bad_case(name, NTK_MUTEX_ABORT, 15, 0, 0);
+    bad_case(limit ? "chain of 17, all waits and 15 delays end" : name, NTK_TICK, 0, 0, 0);
+}
+
+/* 16 waiters before the end of a chain of 16. */
+static void build_bunch(void)
+{
+    unsigned i;
+
+    build_links(0);
+    for (i = 0; i < 16; i++) {
+        make(NTK_TASK_CREATE, i == 0 ? 0 : 16 + i, 40 - i, 0);
+        make(NTK_MUTEX_WAIT, 15, 1, 1);
+    }
+    bad_case("16 waiters behind a chain of 16, forced", NTK_MUTEX_DELETE, 15, 1, 0);
+    bad_case("16 waiters behind a chain of 16 time out", NTK_TICK, 0, 0, 0);
+    bad_case("16 waiters behind a chain of 16", NTK_MUTEX_ABORT, 15, 0, 0);
+}
+
+/* 16 tasks in a ring of waits, and 16 more waiting for one of them. */
+static void build_ring(void)
+{
+    unsigned i;
+
+    build_links(0);
+    make(NTK_MUTEX_WAIT, 15, 1, 0);
+    for (i = 0; i < 16; i++) {
+        make(NTK_TASK_CREATE, i == 0 ? 0 : 16 + i, 40 - i, 0);
+        make(NTK_MUTEX_WAIT, 15, 1, 1);
+    }
+    bad_case("16 waiters behind a ring of 16, forced", NTK_MUTEX_DELETE, 15, 1, 0);
+    bad_case("16 waiters behind a ring of 16 time out", NTK_TICK, 0, 0, 0);
+    bad_case("16 waiters behind a ring of 16", NTK_MUTEX_ABORT, 15, 0, 0);
+    bad_case("16 waiters behind a ring of 16", NTK_CHANGE_PRIORITY, 31, 60, 0);
+}
+
+/* The running task holds 16 mutexes, each with a waiter, and 15 others are able. */
+static void build_holder(void)
+{
+    unsigned i;
+
+    plain_fresh(&built);
+    make(NTK_TASK_CREATE, 0, 60, 0);
+    for (i = 0; i < 16; i++) {
+        make(NTK_MUTEX_CREATE, i, 0, 0);
+        make(NTK_MUTEX_WAIT, i, 1, 0);
+    }
+    for (i = 0; i < 16; i++) {
+        make(NTK_TASK_CREATE, 1 + i, i == 15 ? 5 : 40 - i, 0);
+        make(NTK_MUTEX_WAIT, i, 1, 0);
+    }
+    for (i = 0; i < 15; i++)
+        make(NTK_TASK_CREATE, 17 + i, 10, 0);
+    bad_case("16 mutexes held and waited for, 16 able tasks", NTK_MUTEX_POST, 15, 0, 0);
+    bad_case("16 mutexes held and waited for, 16 able tasks", NTK_MUTEX_ABORT, 15, 0, 0);
+}
+
+static void build_cases(void)
+{
+    unsigned first = case_count, i;
+
+    build_equals();
+    build_waiters();
+    build_sleepers();
+    build_chain(0, 0);
+    build_chain(1, 0);
+    build_chain(0, 1);
+    build_chain(1, 1);
+    build_bunch();
+    build_ring();
+    build_holder();
+    for (i = first; i < case_count; i++)
+        compare_case(&cases[i], i);
+}
+
+void make_cases(void)
+{
+    unsigned q;
+
+    cases = calloc(MOST_CASES, sizeof *cases);
+    if (cases == NULL)
+        failed("no memory");
+    for (q = 0; q < SEQUENCES; q++)
+        verify(sequences[q]);
+    build_cases();
+}

@@ -1,0 +1,63 @@
+/* play.h: the variants that are timed, a table as each of them has it, and calls played on it. */
+#ifndef PLAY_H
+#define PLAY_H
+
+#include "../include/nonthachak.h"
+#include "plain.h"
+
+/* Variants:
+ *     C         plain_step, a struct behind a pointer
+ *     C+check   plain_check, then plain_step
+ *     serve     ntk_serve: the port without its test of the image
+ *     step      ntk_step: the port as the customer calls it */
+enum variant { PLAIN, CHECKED, SERVE, STEP, VARIANTS };
+
+extern const char *const variant_names[VARIANTS];
+
+struct call {
+    uint8_t kind;
+    uint32_t a, b, c;
+};
+
+/* A table as the two kinds of kernel have it. */
+struct table {
+    _Alignas(64) uint8_t image[NTK_IMAGE_SIZE];
+    _Alignas(64) struct plain plain;
+};
+
+/* A call on a table. */
+struct one_case {
+    char name[64];
+    struct call call;
+    struct table table;
+};
+
+enum { COPIES = 8 };
+
+/* Says what failed and ends the program. */
+_Noreturn void failed(const char *what);
+
+void make_fresh(struct table *t);
+
+/* A call by the plain kernel that has to be done or to block. */
+void must(struct plain *k, unsigned kind, uint32_t a, uint32_t b, uint32_t c);
+
+void make_case(struct one_case *one, const char *name, const struct plain *k, struct call c);
+
+/* Plays n calls on a table and gives back a sum over the outcomes. */
+uint64_t play(enum variant v, const struct call *calls, size_t n, struct table *t);
+
+/* The same call on each of the copies. */
+uint64_t play_copies(enum variant v, const struct call *c, struct table *copies);
+
+/* One call by every variant, each on a table of its own: outcomes and tables must agree. */
+void compare(const struct call *c, struct table tables[VARIANTS], const char *name, size_t number);
+
+/* The same for a case. */
+void compare_case(const struct one_case *one, size_t number);
+
+/* A line of times with their ratios, and what stands above such lines. */
+void print_head(const char *what);
+void print_row(const char *name, const double ns[VARIANTS]);
+
+#endif

@@ -1,0 +1,334 @@
+/* sequences.c: see sequences.h. */
+#include "sequences.h"
+
+#include <string.h>
+
+static struct sequence kiosk = {.name = "kiosk"}, chains = {.name = "chains"}, ticks = {.name = "ticks"}, mixed = {.name = "random"};
+
+struct sequence *const sequences[SEQUENCES] = {&kiosk, &chains, &ticks, &mixed};
+
+static struct plain recorder;
+
+/* How many tasks the chain from task i has, also where it leads into a ring. */
+static unsigned chain_from(const struct plain *k, unsigned i)
+{
+    uint32_t seen = UINT32_C(1) << i;
+    unsigned length = 1;
+
+    while (k->task[i].state == PLAIN_WAITS_MUTEX) {
+        i = k->mutex[k->task[i].object].holder;
+        if (seen >> i & 1)
+            break;
+        seen |= UINT32_C(1) << i;
+        length++;
+    }
+    return length;
+}
+
+static unsigned record(struct sequence *s, unsigned kind, uint32_t a, uint32_t b, uint32_t c)
+{
+    struct call *call = &s->calls[s->length];
+    unsigned caller = recorder.running;
+    struct plain_outcome o;
+
+    if (s->length == CALLS)
+        return 0;
+    call->kind = (uint8_t)kind;
+    call->a = a;
+    call->b = b;
+    call->c = c;
+    s->length++;
+    o = plain_step(&recorder, call->kind, a, b, c);
+    if (kind == NTK_MUTEX_WAIT && o.answer == NTK_BLOCKS && chain_from(&recorder, caller) > s->deepest)
+        s->deepest = chain_from(&recorder, caller);
+    return o.answer;
+}
+
+/* What a task does, over and over. A step with `given` is left out where the last wait was not given. */
+struct step {
+    uint8_t kind;
+    uint32_t a, b, c;
+    int given;
+};
+
+struct worker {
+    struct step steps[12];
+    unsigned length, at;
+};
+
+static struct worker workers[NTK_TASKS];
+
+static void add_step(unsigned task, unsigned kind, uint32_t a, uint32_t b, uint32_t c, int given)
+{
+    struct step *s = &workers[task].steps[workers[task].length++];
+
+    s->kind = (uint8_t)kind;
+    s->a = a;
+    s->b = b;
+    s->c = c;
+    s->given = given;
+}
+
+/* The running task does its next step. */
+static void work(struct sequence *s)
+{
+    unsigned i = recorder.running;
+    struct worker *w = &workers[i];
+    const struct step *next;
+
+    do {
+        next = &w->steps[w->at];
+        w->at = (w->at + 1) % w->length;
+    } while (next->given && recorder.task[i].outcome != NTK_GIVEN);
+    record(s, next->kind, next->a, next->b, next->c);
+}
+
+static void begin(struct sequence *s)
+{
+    s->length = 0;
+    memset(workers, 0, sizeof workers);
+    plain_fresh(&recorder);
+}
+
+static void create_task(struct sequence *s, unsigned task, unsigned base, unsigned quantum)
+{
+    record(s, NTK_TASK_CREATE, task, base, quantum);
+}
+
+enum { READER = 8, DECODER, OUTPUT, KEEPER };
+enum { ROOM, DATA, EMPTY, FULL, SHOW };
+enum { FRAMES = 4, CLOCK };
+
+static void create_kiosk(struct sequence *s)
+{
+    begin(s);
+    record(s, NTK_LOCK, 0, 0, 0);
+    record(s, NTK_SEMAPHORE_CREATE, ROOM, 4, 0);
+    record(s, NTK_SEMAPHORE_CREATE, DATA, 0, 0);
+    record(s, NTK_SEMAPHORE_CREATE, EMPTY, 3, 0);
+    record(s, NTK_SEMAPHORE_CREATE, FULL, 0, 0);
+    record(s, NTK_SEMAPHORE_CREATE, SHOW, 0, 0);
+    record(s, NTK_MUTEX_CREATE, FRAMES, 0, 0);
+    record(s, NTK_MUTEX_CREATE, CLOCK, 0, 0);
+    create_task(s, OUTPUT, 10, 0);
+    create_task(s, READER, 20, 0);
+    create_task(s, DECODER, 30, 0);
+    create_task(s, KEEPER, 40, 0);
+    record(s, NTK_UNLOCK, 0, 0, 0);
+}
+
+static void add_kiosk_steps(void)
+{
+    add_step(OUTPUT, NTK_SEMAPHORE_WAIT, SHOW, 1, 0, 0);
+    add_step(OUTPUT, NTK_SEMAPHORE_WAIT, FULL, 1, 6, 0);
+    add_step(OUTPUT, NTK_SEMAPHORE_POST, EMPTY, 0, 0, 1);
+    add_step(OUTPUT, NTK_MUTEX_WAIT, FRAMES, 1, 0, 0);
+    add_step(OUTPUT, NTK_MUTEX_POST, FRAMES, 0, 0, 0);
+    add_step(OUTPUT, NTK_MUTEX_WAIT, CLOCK, 1, 0, 0);
+    add_step(OUTPUT, NTK_MUTEX_POST, CLOCK, 0, 0, 0);
+    add_step(READER, NTK_SEMAPHORE_WAIT, ROOM, 1, 0, 0);
+    add_step(READER, NTK_DELAY, 1, 0, 0, 0);
+    add_step(READER, NTK_MUTEX_WAIT, CLOCK, 1, 0, 0);
+    add_step(READER, NTK_MUTEX_POST, CLOCK, 0, 0, 0);
+    add_step(READER, NTK_SEMAPHORE_POST, DATA, 0, 0, 0);
+    add_step(DECODER, NTK_SEMAPHORE_WAIT, DATA, 1, 0, 0);
+    add_step(DECODER, NTK_SEMAPHORE_WAIT, EMPTY, 1, 0, 0);
+    add_step(DECODER, NTK_MUTEX_WAIT, FRAMES, 1, 0, 0);
+    add_step(DECODER, NTK_MUTEX_WAIT, CLOCK, 1, 0, 0);
+    add_step(DECODER, NTK_DELAY, 1, 0, 0, 0);
+    add_step(DECODER, NTK_MUTEX_POST, FRAMES, 0, 0, 0);
+    add_step(DECODER, NTK_MUTEX_POST, CLOCK, 0, 0, 0);
+    add_step(DECODER, NTK_SEMAPHORE_POST, FULL, 0, 0, 0);
+    add_step(DECODER, NTK_SEMAPHORE_POST, ROOM, 0, 0, 0);
+    add_step(KEEPER, NTK_DELAY, 5, 0, 0, 0);
+    add_step(KEEPER, NTK_MUTEX_WAIT, CLOCK, 1, 0, 0);
+    add_step(KEEPER, NTK_LOCK, 0, 0, 0, 0);
+    add_step(KEEPER, NTK_UNLOCK, 0, 0, 0, 0);
+    add_step(KEEPER, NTK_MUTEX_POST, CLOCK, 0, 0, 0);
+}
+
+/* The loop of the kiosk: the reader fetches, the decoder takes the frames and the clock together, the output shows a frame at each
+ * second tick, the housekeeper looks at the clock now and then. Every sixth call is a tick. */
+static void record_kiosk(void)
+{
+    struct sequence *s = &kiosk;
+    unsigned n;
+
+    create_kiosk(s);
+    add_kiosk_steps();
+    for (n = 0; s->length < CALLS; n++) {
+        if (recorder.running != PLAIN_NONE && n % 6 != 0)
+            work(s);
+        else if (recorder.tick % 2 == 0 && recorder.semaphore[SHOW].count == 0 && n % 2 == 0)
+            record(s, NTK_SEMAPHORE_POST | NTK_INTERRUPT, SHOW, 0, 0);
+        else
+            record(s, NTK_TICK | NTK_INTERRUPT, 0, 0, 0);
+    }
+}
+
+/* Task i holds mutex i and then waits for mutex i - 1, the more urgent ones behind the less urgent ones, so that chains form; four
+ * further tasks wait at their ends, with limits, and one changes priorities. Every eighth call is a tick. */
+static void record_chains(void)
+{
+    enum { LINKS = 12, ENDS = 4, MANAGER = 31 };
+    struct sequence *s = &chains;
+    unsigned i, n;
+
+    begin(s);
+    record(s, NTK_LOCK, 0, 0, 0);
+    for (i = 0; i < LINKS; i++) {
+        record(s, NTK_MUTEX_CREATE, i, 0, 0);
+        create_task(s, i, 50 - 3 * i, 2);
+        add_step(i, NTK_MUTEX_WAIT, i, 1, 0, 0);
+        add_step(i, NTK_DELAY, 5 + i % 4, 0, 0, 0);
+        if (i > 0) {
+            add_step(i, NTK_MUTEX_WAIT, i - 1, 1, 30 + i, 0);
+            add_step(i, NTK_MUTEX_POST, i - 1, 0, 0, 1);
+        }
+        add_step(i, NTK_MUTEX_POST, i, 0, 0, 0);
+        add_step(i, NTK_DELAY, 1, 0, 0, 0);
+    }
+    for (i = 0; i < ENDS; i++) {
+        unsigned task = 20 + i, mutex = LINKS - 1 - 3 * i;
+        create_task(s, task, 8 + i, 2);
+        add_step(task, NTK_MUTEX_WAIT, mutex, 1, 4 + 3 * i, 0);
+        add_step(task, NTK_MUTEX_WAIT, mutex, 0, 0, 1);
+        add_step(task, NTK_MUTEX_POST, mutex, 0, 0, 1);
+        add_step(task, NTK_MUTEX_POST, mutex, 0, 0, 1);
+        add_step(task, NTK_DELAY, 2 + i, 0, 0, 0);
+    }
+    create_task(s, MANAGER, 2, 0);
+    add_step(MANAGER, NTK_DELAY, 5, 0, 0, 0);
+    add_step(MANAGER, NTK_CHANGE_PRIORITY, LINKS - 2, 4, 0, 0);
+    add_step(MANAGER, NTK_DELAY, 2, 0, 0, 0);
+    add_step(MANAGER, NTK_CHANGE_PRIORITY, LINKS - 2, 20, 0, 0);
+    record(s, NTK_UNLOCK, 0, 0, 0);
+
+    for (n = 0; s->length < CALLS; n++) {
+        if (recorder.running != PLAIN_NONE && n % 8 != 0)
+            work(s);
+        else
+            record(s, NTK_TICK | NTK_INTERRUPT, 0, 0, 0);
+    }
+}
+
+/* All 32 tasks, four on each level, taking turns; they sleep and wait with limits. Four calls of five are ticks. */
+static void record_ticks(void)
+{
+    struct sequence *s = &ticks;
+    unsigned i, n;
+
+    begin(s);
+    record(s, NTK_LOCK, 0, 0, 0);
+    for (i = 0; i < 4; i++)
+        record(s, NTK_SEMAPHORE_CREATE, i, 1, 0);
+    for (i = 0; i < NTK_TASKS; i++) {
+        create_task(s, i, 20 + i / 4, 2 + i % 2);
+        add_step(i, NTK_DELAY, 90 + i * 7 % 23, 0, 0, 0);
+        add_step(i, NTK_SEMAPHORE_WAIT, i % 4, 1, 20 + i % 9, 0);
+        add_step(i, NTK_SEMAPHORE_POST, i % 4, 0, 0, 1);
+        add_step(i, NTK_DELAY, 30 + i * 5 % 17, 0, 0, 0);
+    }
+    record(s, NTK_UNLOCK, 0, 0, 0);
+    for (n = 0; s->length < CALLS; n++) {
+        if (recorder.running != PLAIN_NONE && n % 5 == 0)
+            work(s);
+        else
+            record(s, NTK_TICK | NTK_INTERRUPT, 0, 0, 0);
+    }
+}
+
+static uint64_t seed = 20240229;
+
+static uint32_t below(uint32_t n)
+{
+    uint64_t z = seed += UINT64_C(0x9E3779B97F4A7C15);
+
+    z = (z ^ z >> 30) * UINT64_C(0xBF58476D1CE4E5B9);
+    z = (z ^ z >> 27) * UINT64_C(0x94D049BB133111EB);
+    return (uint32_t)((z ^ z >> 31) >> 32) % n;
+}
+
+static const struct {
+    uint8_t kind, weight;
+} weights[] = {
+    {NTK_TASK_CREATE, 12},     {NTK_TASK_DELETE, 2},      {NTK_CHANGE_PRIORITY, 5},  {NTK_SUSPEND, 3},
+    {NTK_RESUME, 6},           {NTK_YIELD, 3},            {NTK_DELAY, 5},            {NTK_DELAY_RESUME, 3},
+    {NTK_LOCK, 2},             {NTK_UNLOCK, 6},           {NTK_TICK, 15},            {NTK_TICK | NTK_INTERRUPT, 5},
+    {NTK_SEMAPHORE_CREATE, 4}, {NTK_SEMAPHORE_DELETE, 1}, {NTK_SEMAPHORE_WAIT, 12},  {NTK_SEMAPHORE_POST, 10},
+    {NTK_SEMAPHORE_POST | NTK_INTERRUPT, 3},              {NTK_SEMAPHORE_ABORT, 2},  {NTK_MUTEX_CREATE, 6},
+    {NTK_MUTEX_DELETE, 1},     {NTK_MUTEX_WAIT, 25},      {NTK_MUTEX_POST, 15},      {NTK_MUTEX_ABORT, 2},
+};
+
+enum { WEIGHTS = sizeof weights / sizeof weights[0] };
+
+static uint8_t some_kind(void)
+{
+    unsigned i, sum = 0;
+    uint32_t at;
+
+    for (i = 0; i < WEIGHTS; i++)
+        sum += weights[i].weight;
+    at = below(sum);
+    for (i = 0; at >= weights[i].weight; i++)
+        at -= weights[i].weight;
+    return weights[i].kind;
+}
+
+/* A call with numbers that are mostly valid. */
+static struct call some_call(void)
+{
+    struct call call = {some_kind(), 0, 0, 0};
+
+    call.a = below(NTK_TASKS);
+    call.b = below(63);
+    switch (call.kind) {
+    case NTK_TASK_CREATE:
+        call.c = below(4);
+        break;
+    case NTK_DELAY:
+        call.a = 1 + below(12);
+        break;
+    case NTK_SEMAPHORE_CREATE:
+        call.a = below(8);
+        call.b = below(3);
+        break;
+    case NTK_SEMAPHORE_WAIT:
+    case NTK_MUTEX_WAIT:
+        call.a = below(12);
+        call.b = below(8) != 0;
+        call.c = below(3) != 0 ? 1 + below(20) : 0;
+        break;
+    default:
+        if ((call.kind & ~NTK_INTERRUPT) >= NTK_SEMAPHORE_CREATE) {
+            call.a = below(12);
+            call.b = below(2);
+        }
+    }
+    return call;
+}
+
+/* Random calls of every kind from a fixed seed, on a well filled table. One refused call of twenty stays, the rest are valid. */
+static void record_mixed(void)
+{
+    struct sequence *s = &mixed;
+
+    begin(s);
+    while (s->length < CALLS) {
+        struct call call = some_call();
+        struct plain before = recorder;
+        struct plain_outcome o = plain_step(&recorder, call.kind, call.a, call.b, call.c);
+
+        recorder = before;
+        if (o.answer == NTK_DONE || o.answer == NTK_BLOCKS || below(20) == 0)
+            record(s, call.kind, call.a, call.b, call.c);
+    }
+}
+
+void record_sequences(void)
+{
+    record_kiosk();
+    record_chains();
+    record_ticks();
+    record_mixed();
+}

@@ -1,0 +1,10 @@
+pub mod Columns
+pub mod Words
+pub mod Laws
+pub mod Image
+pub mod Every
+pub mod Rows
+pub mod Views
+pub mod Runs
+pub mod Whole
+pub mod Examples

@@ -1,0 +1,208 @@
+-- Laws of the list of fields.
+use mathlib.Core.Bool.{Bool, true, false, cond, true≢false}
+use mathlib.Core.List.{List, [], _∷_, _++_}
+use mathlib.Core.Logic.{_≢_, _↔_}
+use mathlib.Core.Path.{_≡_, refl, sym, ap, subst, _∙_}
+use Prim.Native.Nat.{ℕ, _<_, _≤_, _/_, _%_}
+use native.Mathlib.Omega.{arith}
+use lib.Dec.{eqb, ltb}
+use lib.ListN.{length}
+use borrow.Author.Tests.{eq-eqb, ne-eqb, le-ltb, ltb-true, leb-true}
+use Rattle.rules.specs.Table.{Table}
+use Rattle.rules.specs.Tape.{Bytes}
+use Rattle.table.specs.Image.{Image, imageSize, view}
+use Rattle.table.specs.Written.{Fits, view-fits}
+use Rattle.port.specs.Field.{noField, Field, taskFields, objectFields, queueFields, singleFields, fields, shownIn, fieldOf, readOf, knownIn, known}
+
+-- So it is of each field of the list.
+pub data Each (P : Field → Type 0) : List Field → Type 0 where
+  end : Each P []
+  with : {r : Field} {rs : List Field} → P r → Each P rs → Each P (r ∷ rs)
+
+cond-same : (b : Bool) (x : ℕ) → cond b x x ≡ x
+cond-same true x = refl
+cond-same false x = refl
+
+module _ (f i : ℕ) (t : Table) where
+  -- A field that the list lacks,
+  pub shown-lacking : {l : List Field} → Each (λ r. f ≢ r .code) l → shownIn l f i t ≡ noField
+  unfolding shownIn
+  shown-lacking end = refl
+  shown-lacking (with {r} {rs} d e) = rw (ne-eqb f (r .code) d) (shown-lacking e)
+
+  -- and a number from which on there is none.
+  pub shown-beyond : {l : List Field} (n : ℕ) → n ≤ i → Each (λ r. r .count ≡ n) l → shownIn l f i t ≡ noField
+  unfolding shownIn
+  shown-beyond n h end = refl
+  shown-beyond n h (with {r} {rs} d e) = rw (d, le-ltb i n h, shown-beyond n h e) (cond-same (eqb f (r .code)) noField)
+
+  -- Of two lists the one that does not lack it tells.
+  pub shown-before : (l m : List Field) → Each (λ r. f ≢ r .code) m → shownIn (l ++ m) f i t ≡ shownIn l f i t
+  unfolding shownIn
+  shown-before [] m e = shown-lacking e
+  shown-before (r ∷ rs) m e = ap (λ (x : ℕ). cond (eqb f (r .code)) (cond (ltb i (r .count)) (r .shows t i) noField) x) (shown-before rs m e)
+
+  pub shown-behind : (l m : List Field) → Each (λ r. f ≢ r .code) l → shownIn (l ++ m) f i t ≡ shownIn m f i t
+  unfolding shownIn
+  shown-behind l m end = refl
+  shown-behind l m (with {r} {rs} d e) = rw (ne-eqb f (r .code) d) (shown-behind rs m e)
+
+-- Fields whose codes are below f, or above it.
+pub all-below : {f : ℕ} (b : ℕ) {l : List Field} → b ≤ f → Each (λ r. r .code < b) l → Each (λ r. f ≢ r .code) l
+all-below b h end = end
+all-below b h (with {r} d e) = with {r = r} (λ z. omega (arith, h, d, z)) (all-below b h e)
+
+pub all-above : {f : ℕ} (a : ℕ) {l : List Field} → f < a → Each (λ r. a ≤ r .code) l → Each (λ r. f ≢ r .code) l
+all-above a h end = end
+all-above a h (with {r} d e) = with {r = r} (λ z. omega (arith, h, d, z)) (all-above a h e)
+
+-- ---- which fields are read of bytes
+
+abbrev fromQueues : List Field
+fromQueues = queueFields ++ singleFields
+
+abbrev fromObjects : List Field
+fromObjects = objectFields ++ fromQueues
+
+module _ (f i : ℕ) (l : List ℕ) where
+  pub read-wrong : (Image l → ⊥) → readOf f i l ≡ noField
+  unfolding readOf
+  read-wrong h = ap (λ (b : Bool). cond b (fieldOf f i (view l)) noField) (ne-eqb (length l) imageSize h)
+
+  pub read-right : Image l → readOf f i l ≡ fieldOf f i (view l)
+  unfolding readOf
+  read-right h = ap (λ (b : Bool). cond b (fieldOf f i (view l)) noField) (eq-eqb (length l) imageSize h)
+
+  pub read-task : Image l → f < 0x10 → readOf f i l ≡ shownIn taskFields f i (view l)
+  read-task h p = read-right h ∙ shown-before f i (view l) taskFields fromObjects (all-above 0x10 p (search (end, with, leb-true) depth 40))
+
+  -- Past the tasks, the objects and the queues.
+  past-tasks : Image l → 0x10 ≤ f → readOf f i l ≡ shownIn fromObjects f i (view l)
+  past-tasks h o = read-right h ∙ shown-behind f i (view l) taskFields fromObjects (all-below 0x10 o (search (end, with, ltb-true) depth 40))
+
+  past-objects : Image l → 0x30 ≤ f → readOf f i l ≡ shownIn fromQueues f i (view l)
+  past-objects h o = past-tasks h (omega arith) ∙ shown-behind f i (view l) objectFields fromQueues (all-below 0x30 o (search (end, with, ltb-true) depth 40))
+
+  pub read-object : Image l → 0x10 ≤ f → f < 0x30 → readOf f i l ≡ shownIn objectFields f i (view l)
+  read-object h o p = past-tasks h o ∙ shown-before f i (view l) objectFields fromQueues (all-above 0x30 p (search (end, with, leb-true) depth 40))
+
+  pub read-slot : Image l → 0x30 ≤ f → f < 0xF0 → readOf f i l ≡ shownIn queueFields f i (view l)
+  read-slot h o p = past-objects h o ∙ shown-before f i (view l) queueFields singleFields (all-above 0xF0 p (search (end, with, leb-true) depth 40))
+
+  pub read-single : Image l → 0xF0 ≤ f → readOf f i l ≡ shownIn singleFields f i (view l)
+  read-single h o = past-objects h (omega arith) ∙ shown-behind f i (view l) queueFields singleFields (all-below 0xF0 o (search (end, with, ltb-true) depth 40))
+
+-- ---- `noField` is no field's number
+
+-- Of an unknown field or number nothing is shown.
+unknown-in : (l : List Field) (f i : ℕ) (t : Table) → knownIn l f i ≡ false → shownIn l f i t ≡ noField
+unfolding knownIn shownIn
+unknown-in [] f i t k = refl
+unknown-in (r ∷ rs) f i t k = go (eqb f (r .code)) k (unknown-in rs f i t)
+  where
+    go : (b : Bool) → cond b (ltb i (r .count)) (knownIn rs f i) ≡ false → (knownIn rs f i ≡ false → shownIn rs f i t ≡ noField)
+        → cond b (cond (ltb i (r .count)) (r .shows t i) noField) (shownIn rs f i t) ≡ noField
+    go true k rest = rw k
+    go false k rest = rest k
+
+pub unknown-none : (f i : ℕ) (l : List ℕ) → known f i ≡ false → readOf f i l ≡ noField
+unfolding readOf
+unknown-none f i l k = rw (unknown-in fields f i (view l) k) (cond-same (eqb (length l) imageSize) noField)
+
+-- What each field shows has 32 bits.
+abbrev Small : Table → Field → Type 0
+Small t r = (i : ℕ) → i < r .count → r .shows t i < 4294967296
+
+known-in : (t : Table) (l : List Field) → Each (Small t) l → (f i : ℕ) → knownIn l f i ≡ true → shownIn l f i t < 4294967296
+unfolding knownIn shownIn
+known-in t l end f i k = absurd (true≢false (sym k))
+known-in t l (with {r} {rs} d e) f i k = go (eqb f (r .code)) k (known-in t rs e f i)
+  where
+    go : (b : Bool) → cond b (ltb i (r .count)) (knownIn rs f i) ≡ true → (knownIn rs f i ≡ true → shownIn rs f i t < 4294967296)
+        → cond b (cond (ltb i (r .count)) (r .shows t i) noField) (shownIn rs f i t) < 4294967296
+    go true k rest = rw k (d i (ltb-true i (r .count) k))
+    go false k rest = rest k
+
+-- The same, written field by field.
+abbrev Listed : (Field → Type 0) → List Field → Type 0
+Listed P [] = Unit
+Listed P (r ∷ rs) = P r × Listed P rs
+
+listed-each : (P : Field → Type 0) (l : List Field) → Listed P l → Each P l
+listed-each P [] e = end
+listed-each P (r ∷ rs) (d, e) = with {r = r} d (listed-each P rs e)
+
+all-small : (t : Table) → Fits t → Each (Small t) fields
+all-small t s =
+    listed-each (Small t) fields (
+      (λ i h. omega (arith, s .tasks i h)),
+      (
+        (λ i h. omega (arith, s .tasks i h)),
+        (
+          (λ i h. omega (arith, s .tasks i h)),
+          (
+            (λ i h. omega (arith, s .tasks i h)),
+            (
+              (λ i h. omega (arith, s .tasks i h)),
+              (
+                (λ i h. omega (arith, s .tasks i h)),
+                (
+                  (λ i h. omega (arith, s .tasks i h)),
+                  (
+                    (λ i h. omega (arith, s .tasks i h)),
+                    (
+                      (λ i h. omega (arith, s .tasks i h)),
+                      (
+                        (λ i h. omega (arith, s .tasks i h)),
+                        (
+                          (λ i h. omega (arith, s .tasks i h)),
+                          (
+                            (λ i h. omega (arith, s .semaphores i h)),
+                            (
+                              (λ i h. omega (arith, s .semaphores i h)),
+                              (
+                                (λ i h. omega (arith, s .mutexes i h)),
+                                (
+                                  (λ i h. omega (arith, s .mutexes i h)),
+                                  (
+                                    (λ i h. omega (arith, s .mutexes i h)),
+                                    (
+                                      (λ i h. let q : i / 32 < 33 = omega (arith, h) in omega (arith, s .queues (i / 32) q (i % 32))),
+                                      (
+                                        (λ i h. omega (arith, s .tick)),
+                                        (
+                                          (λ i h. omega (arith, s .depth)),
+                                          (
+                                            (λ i h. omega (arith, s .running)),
+                                            tt,
+                                          ),
+                                        ),
+                                      ),
+                                    ),
+                                  ),
+                                ),
+                              ),
+                            ),
+                          ),
+                        ),
+                      ),
+                    ),
+                  ),
+                ),
+              ),
+            ),
+          ),
+        ),
+      ),
+    )
+
+pub known-small : (f i : ℕ) (l : List ℕ) → Image l → Bytes l → known f i ≡ true → readOf f i l < 4294967296
+known-small f i l h b k = rw (read-right f i l h) (known-in (view l) fields (all-small (view l) (view-fits l h b)) f i k)
+
+-- So of an image `noField` is read exactly where the field or the number is unknown.
+pub none-exactly : (f i : ℕ) (l : List ℕ) → Image l → Bytes l → (readOf f i l ≡ noField) ↔ (known f i ≡ false)
+none-exactly f i l h b = ((λ e. go (known f i) refl e), unknown-none f i l)
+  where
+    go : (k : Bool) → known f i ≡ k → readOf f i l ≡ noField → k ≡ false
+    go true k e = absurd (omega (arith, known-small f i l h b k, e))
+    go false k e = refl

@@ -1,0 +1,42 @@
+use mathlib.Core.Path.{refl, sym, _∙_}
+use Prim.Native.Nat.{_<_}
+use native.Mathlib.Omega.{arith}
+use Rattle.rules.specs.Sizes.{taskCount, plain}
+use Rattle.rules.specs.Table.{taskOf, withState, withMark, withOutcome}
+use Rattle.rules.specs.Move.{ready}
+use Rattle.laws.specs.queues.Put.{put-out}
+use Rattle.table.specs.Image.{view}
+use Rattle.table.specs.Shape.{view-shaped}
+use Rattle.table.specs.Settled.{then-stored, settled-put}
+use borrow.Author.Needs.{needs}
+use Rattle.service.proofs.ending.stand_ready.Statement.{statement}
+use Rattle.service.proofs.ending.stand_ready.Tie as tie
+
+returns : tie.Need-returns
+returns c =
+    let a = c .before .before .args in
+    sym (put-out (a .i) _ (view (a .s .now)) (c .if1 .taken))
+
+returns-2 : tie.Need-returns-2
+returns-2 c =
+    let a = c .before .before .before .before .before .before .before .before .before .before .before .before .before .before .before .before .before .before .before .before .args in
+    let t = view (a .s .now) in
+    let k = taskOf t (a .i) in
+    let l : a .i < taskCount = omega arith in
+    let size = view-shaped (a .s .now) (c .before .before .before .before .before .before .before .before .before .before .before .before .before .before .before .before .before .before .before .before .pre) .tasks in
+    let marked = c .before .before .before .before .before .before .before .before .before .before .set-mark .ensures ∙ then-stored (a .i) t l size (withMark 0 0) (withState plain 0 k) _ (c .before .before .before .before .before .before .before .before .before .before .before .before .before .before .set-state .ensures) in
+    let stored = c .before .before .before .before .before .before .set-outcome .ensures ∙ then-stored (a .i) t l size (withOutcome (a .outcome)) (withState plain 0 (withMark 0 0 k)) _ marked in
+    c .before .before .settle .ensures ∙ settled-put (a .i) (ready (a .outcome) k) t l size _ stored _ (c .before .before .before .before .before .before .before .before .before .before .before .before .before .before .before .before .place-of .ensures) refl
+
+pub stand-ready-spec : {M : Type 1} → statement M
+stand-ready-spec =
+    tie.close
+    (tie.spec
+    returns
+    (λ c κs. search needs)
+    (λ c κs. search needs)
+    (λ c κs. search needs)
+    (λ c κs. search needs)
+    (λ c κs. search needs)
+    (λ c. search needs)
+    returns-2)

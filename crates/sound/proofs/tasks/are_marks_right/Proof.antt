@@ -1,0 +1,50 @@
+use mathlib.Core.Path.{_≡_}
+use Prim.Native.Nat.{_-_, _≤_, _<_}
+use native.Mathlib.Omega.{arith}
+use borrow.Author.Tests.{lt-ltb}
+use Rattle.rules.specs.Sizes.{taskCount, ticksRound}
+use Rattle.rules.specs.Table.{taskOf}
+use Rattle.rules.specs.Sound.{each}
+use Rattle.table.specs.Image.{view}
+use Rattle.sound.specs.Rows.{hasSoundMark}
+use Rattle.sound.specs.Tests.{each-none, each-and}
+use borrow.Author.Needs.{needs}
+use Rattle.sound.proofs.tasks.are_marks_right.Statement.{statement}
+use Rattle.sound.proofs.tasks.are_marks_right.Tie as tie
+
+abbrev Inv-loop : tie.InvT-loop
+Inv-loop s tick all₀ i₀ all i = (i ≤ taskCount) × (all ≡ each i (λ j. hasSoundMark (view s .tick) (taskOf (view s) j)))
+
+abbrev μ-loop : tie.MeasureT-loop
+μ-loop s tick all₀ i₀ all i = taskCount - i
+
+loop-holds : tie.Need-loop-holds Inv-loop μ-loop
+loop-holds c = (omega arith, each-none _)
+
+loop-again : tie.Need-loop-again Inv-loop μ-loop
+loop-again c =
+    let l = c .before .before .loop in
+    let t = view (c .before .before .before .before .before .args .s .now) in
+    let e : c .has-right-mark .result ≡ hasSoundMark (t .tick) (taskOf t (l .i)) = cc in
+    (omega arith, each-and (λ j. hasSoundMark (t .tick) (taskOf t j)) (l .i) e (l .inv .1))
+
+returns : tie.Need-returns Inv-loop μ-loop
+returns c =
+    let t = view (c .before .before .before .before .args .s .now) in
+    let h : t .tick < ticksRound = omega (arith, c .before .before .get-tick .ensures) in
+    let e : c .before .loop .i ≡ taskCount = omega arith in
+    rw (lt-ltb (t .tick) ticksRound h) (rw e at (c .before .loop .inv .1))
+
+pub are-marks-right-spec : {M : Type 1} → statement M
+are-marks-right-spec =
+    tie.close
+    (tie.spec
+    Inv-loop
+    μ-loop
+    (λ c κs. search needs)
+    loop-holds
+    (λ c κs. search needs)
+    (λ c. search needs)
+    (λ c. search needs)
+    loop-again
+    returns)

@@ -1,0 +1,123 @@
+-- A task whose fields were stored, and the moves that make a `put` of it.
+use mathlib.Core.Path.{_≡_, refl, sym, ap, _∙_}
+use mathlib.Core.Bool.{Bool, true, false, cond, _&&_}
+use Prim.Native.Nat.{ℕ, _≤_, _<_}
+use native.Mathlib.Omega.{arith}
+use lib.Dec.{eqb}
+use lib.ListN.{length}
+use lib.Seq.{getD-set-same, set-set}
+use borrow.Author.Tests.{le-ltb, eq-eqb, ne-eqb}
+use Rattle.rules.specs.declared.Task.{Task}
+use Rattle.rules.specs.Sizes.{taskCount}
+use Rattle.rules.specs.Table.{Table, taskOf, queueCount, isAble, noTask, withTask}
+use Rattle.rules.specs.Family.{ofState, placeOf}
+use Rattle.rules.specs.Decides.{equals, itself, both}
+use Rattle.rules.specs.Move.{leave, join, stays, put}
+use Rattle.laws.specs.queues.Put.{put-in, put-moves}
+
+-- Task i stood in queue q: where its place is another now, it leaves q and goes behind its equals in its own.
+unfoldable pub settled : ℕ → ℕ → Table → Table
+settled q i t =
+    let place = placeOf (taskOf t i) in
+    let moved = join place i (leave q i t) in
+    cond (eqb q place) t moved
+
+module _ (q i : ℕ) (t : Table) where
+  pub settled-there : q ≡ placeOf (taskOf t i) → settled q i t ≡ t
+  unfolding settled
+  settled-there e = rw (eq-eqb _ _ e)
+
+  pub settled-moves : (q ≡ placeOf (taskOf t i) → ⊥) → settled q i t ≡ join (placeOf (taskOf t i)) i (leave q i t)
+  unfolding settled
+  settled-moves d = rw (ne-eqb _ _ d)
+
+  -- No queue has such a number.
+  pub leave-none : queueCount ≤ q → leave q i t ≡ t
+  unfolding leave
+  leave-none h = rw (le-ltb q queueCount h)
+
+  pub join-none : queueCount ≤ q → join q i t ≡ t
+  unfolding join
+  join-none h = rw (le-ltb q queueCount h)
+
+-- The record of a free number stands in none.
+pub free-nowhere : queueCount ≤ placeOf noTask
+unfolding placeOf ofState isAble
+free-nowhere = omega arith
+
+-- ---- what is stored
+
+module _ (i : ℕ) (t : Table) (l : i < taskCount) (size : length (t .tasks) ≡ taskCount) where
+  pub task-stored : (k : Task) → taskOf (withTask i k t) i ≡ k
+  task-stored k = getD-set-same (t .tasks) i k noTask (omega arith)
+
+  -- Fields stored after others: the table u has the record k already.
+  pub then-stored : (f : Task → Task) (k : Task) (u : Table) → u ≡ withTask i k t → withTask i (f (taskOf u i)) u ≡ withTask i (f k) t
+  then-stored f k u e =
+      ap (λ (x : Table). withTask i (f (taskOf x i)) x) e
+      ∙ ap (λ (x : Task). withTask i (f x) (withTask i k t)) (task-stored k)
+      ∙ rw (set-set)
+
+and-true : (b : Bool) → (b && true) ≡ b
+and-true true = refl
+and-true false = refl
+
+and-false : (b : Bool) → (b && false) ≡ false
+and-false true = refl
+and-false false = refl
+
+-- ---- the ways through a put
+
+module _ (i : ℕ) (k : Task) (t : Table) (l : i < taskCount) where
+  same-place : stays (taskOf t i) k ≡ true → placeOf (taskOf t i) ≡ placeOf k
+  unfolding stays
+  same-place h = both equals itself .holds h .0
+
+  put-same : stays (taskOf t i) k ≡ true → put i k t ≡ withTask i k t
+  put-same h = put-in i k t l ∙ rw h
+
+  -- A record that stands in no queue: the task leaves its own.
+  pub put-leaves : queueCount ≤ placeOf k → put i k t ≡ leave (placeOf (taskOf t i)) i (withTask i k t)
+  put-leaves h = go (stays (taskOf t i) k) refl
+    where
+      go : (b : Bool) → stays (taskOf t i) k ≡ b → put i k t ≡ leave (placeOf (taskOf t i)) i (withTask i k t)
+      go true e = put-same e ∙ sym (leave-none _ i (withTask i k t) (omega (arith, same-place e)))
+      go false e = put-moves i k t l e ∙ join-none _ i _ h
+
+  -- A task that stands in no queue joins that of its record.
+  pub put-joins : queueCount ≤ placeOf (taskOf t i) → put i k t ≡ join (placeOf k) i (withTask i k t)
+  put-joins h = go (stays (taskOf t i) k) refl
+    where
+      go : (b : Bool) → stays (taskOf t i) k ≡ b → put i k t ≡ join (placeOf k) i (withTask i k t)
+      go true e = put-same e ∙ sym (join-none _ i (withTask i k t) (omega (arith, same-place e)))
+      go false e = put-moves i k t l e ∙ ap (join (placeOf k) i) (leave-none _ i (withTask i k t) h)
+
+  -- A record with the working priority as before: the task settles.
+  pub put-settles : length (t .tasks) ≡ taskCount → taskOf t i .work ≡ k .work → put i k t ≡ settled (placeOf (taskOf t i)) i (withTask i k t)
+  unfolding stays settled
+  put-settles size w =
+      let stands : taskOf (withTask i k t) i ≡ k = task-stored i t l size k in
+      put-in i k t l ∙ rw (eq-eqb _ _ w, stands, and-true (eqb (placeOf (taskOf t i)) (placeOf k)))
+
+  -- Another working priority: it leaves its queue and goes behind its equals.
+  pub put-works : (taskOf t i .work ≡ k .work → ⊥) → put i k t ≡ join (placeOf k) i (leave (placeOf (taskOf t i)) i (withTask i k t))
+  unfolding stays
+  put-works d = put-moves i k t l (rw (ne-eqb _ _ d, and-false (eqb (placeOf (taskOf t i)) (placeOf k))))
+
+  -- ---- the same, of the table u where the record is stored and of the queues that were read: q before, p after
+
+  pub left-put : (u : Table) → u ≡ withTask i k t → (q : ℕ) → q ≡ placeOf (taskOf t i) → queueCount ≤ placeOf k → leave q i u ≡ put i k t
+  left-put u e q a h = rw (a, e) (sym (put-leaves h))
+
+  module _ (size : length (t .tasks) ≡ taskCount) (u : Table) (e : u ≡ withTask i k t) where
+    place-after : placeOf (taskOf u i) ≡ placeOf k
+    place-after = ap (λ (x : Table). placeOf (taskOf x i)) e ∙ ap placeOf (task-stored i t l size k)
+
+    pub settled-put : (q : ℕ) → q ≡ placeOf (taskOf t i) → taskOf t i .work ≡ k .work → settled q i u ≡ put i k t
+    settled-put q a w = rw (a, e) (sym (put-settles size w))
+
+    pub joined-put : (p : ℕ) → p ≡ placeOf (taskOf u i) → queueCount ≤ placeOf (taskOf t i) → join p i u ≡ put i k t
+    joined-put p b h = rw (b, place-after, e) (sym (put-joins h))
+
+    pub moved-put : (q p : ℕ) → q ≡ placeOf (taskOf t i) → p ≡ placeOf (taskOf u i) → (taskOf t i .work ≡ k .work → ⊥) → join p i (leave q i u) ≡ put i k t
+    moved-put q p a b d = rw (a, b, place-after, e) (sym (put-works d))

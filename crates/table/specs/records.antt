@@ -1,0 +1,4 @@
+-- Laws by kind of record: what is read, and what is put.
+pub mod Task
+pub mod Semaphore
+pub mod Mutex

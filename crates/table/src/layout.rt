@@ -1,0 +1,67 @@
+// Where things stand in the image: each column begins behind the one before. docs/IMAGE.md has the reasons.
+
+// How many there are of each.
+pub const TASKS: usize = 32;
+
+pub const SEMAPHORES: usize = 16;
+
+pub const MUTEXES: usize = 16;
+
+// The queue of the able tasks, then those of the semaphores and of the mutexes.
+pub const ABLE_QUEUE: usize = 0;
+
+pub const SEMAPHORE_QUEUE: usize = ABLE_QUEUE + 1;
+
+pub const MUTEX_QUEUE: usize = SEMAPHORE_QUEUE + SEMAPHORES;
+
+pub const QUEUES: usize = MUTEX_QUEUE + MUTEXES;
+
+pub const SLOTS: usize = TASKS;
+
+// Tasks: a byte for each, then two, then four.
+pub const USED: usize = 0;
+
+pub const BASE: usize = USED + TASKS;
+
+pub const WORK: usize = BASE + TASKS;
+
+pub const SUSPEND: usize = WORK + TASKS;
+
+pub const STATE: usize = SUSPEND + TASKS;
+
+pub const OBJECT: usize = STATE + TASKS;
+
+pub const MARKED: usize = OBJECT + TASKS;
+
+pub const OUTCOME: usize = MARKED + TASKS;
+
+pub const QUANTUM: usize = OUTCOME + TASKS;
+
+pub const LEFT: usize = QUANTUM + 2 * TASKS;
+
+pub const DUE: usize = LEFT + 2 * TASKS;
+
+// Semaphores.
+pub const SEMAPHORE_USED: usize = DUE + 4 * TASKS;
+
+pub const COUNT: usize = SEMAPHORE_USED + SEMAPHORES;
+
+// Mutexes.
+pub const MUTEX_USED: usize = COUNT + 4 * SEMAPHORES;
+
+pub const HOLDER: usize = MUTEX_USED + MUTEXES;
+
+pub const NESTING: usize = HOLDER + MUTEXES;
+
+// Queue q stands SLOTS * q behind.
+pub const QUEUE: usize = NESTING + MUTEXES;
+
+// Single numbers.
+pub const TICK: usize = QUEUE + SLOTS * QUEUES;
+
+pub const DEPTH: usize = TICK + 4;
+
+pub const RUNNING: usize = DEPTH + 1;
+
+// How long an image is.
+pub const IMAGE_SIZE: usize = RUNNING + 1;

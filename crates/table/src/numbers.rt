@@ -1,0 +1,62 @@
+// The single numbers of the image: tick counter, lock depth, and who runs.
+ghost use mathlib.Core.Path.{_≡_};
+ghost use Prim.Native.Nat.{_<_};
+ghost use Rattle.rules.specs.Table.{withTick, withDepth, withRunning};
+ghost use Rattle.rules.specs.Time.{callerOf};
+ghost use Rattle.table.specs.Image.{Image, view};
+use crate::layout;
+
+pub fn get_tick(s: &[u8]) -> u32
+    requires { ⌜ Image (now s) ⌝ }
+    ensures { λ r. ⌜ r ≡ view (now (s .entry)) .tick ⌝ }
+{
+    columns::get4(s, layout::TICK, 0)
+}
+
+pub fn set_tick(s: &mut [u8], n: u32)
+    requires { ⌜ Image (now s) ⌝ }
+    ensures { λ _. ⌜ view (now (s .exit)) ≡ withTick n (view (now (s .entry))) ⌝ }
+{
+    columns::put4(s, layout::TICK, 0, n);
+}
+
+pub fn get_depth(s: &[u8]) -> u8
+    requires { ⌜ Image (now s) ⌝ }
+    ensures { λ r. ⌜ r ≡ view (now (s .entry)) .depth ⌝ }
+{
+    columns::get1(s, layout::DEPTH, 0)
+}
+
+pub fn set_depth(s: &mut [u8], n: u8)
+    requires { ⌜ Image (now s) ⌝ }
+    ensures { λ _. ⌜ view (now (s .exit)) ≡ withDepth n (view (now (s .entry))) ⌝ }
+{
+    columns::put1(s, layout::DEPTH, 0, n);
+}
+
+// Who runs: the task's number plus 1, 0 for none.
+pub fn get_running(s: &[u8]) -> u8
+    requires { ⌜ Image (now s) ⌝ }
+    ensures { λ r. ⌜ r ≡ view (now (s .entry)) .running ⌝ }
+{
+    columns::get1(s, layout::RUNNING, 0)
+}
+
+// The running task's number.
+pub fn caller_of(s: &[u8]) -> usize
+    requires { ⌜ Image (now s) ⌝ }
+    ensures { λ r. ⌜ (r ≡ callerOf (view (now (s .entry)))) × (r < 255) ⌝ }
+{
+    let v = get_running(s);
+    if v == 0 {
+        return 0;
+    }
+    v as usize - 1
+}
+
+pub fn set_running(s: &mut [u8], v: u8)
+    requires { ⌜ Image (now s) ⌝ }
+    ensures { λ _. ⌜ view (now (s .exit)) ≡ withRunning v (view (now (s .entry))) ⌝ }
+{
+    columns::put1(s, layout::RUNNING, 0, v);
+}

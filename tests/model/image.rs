@@ -1,0 +1,254 @@
+//! The image: which byte says what, from docs/IMAGE.md. No other file of the model names a byte.
+#![allow(dead_code)]
+
+use crate::kernel::{Kernel, State, Task, OBJECTS, TASKS};
+
+pub const IMAGE: usize = 1702;
+
+const QUEUES: usize = 1 + 2 * OBJECTS;
+const SLOTS: usize = TASKS;
+
+/// One field of all tasks or objects, or all slots, or a single number. "Numbers of two and four bytes have
+/// their lowest byte first."
+#[derive(Clone, Copy)]
+pub struct Column {
+    pub of: &'static str,
+    pub name: &'static str,
+    from: usize,
+    width: usize,
+    pub count: usize,
+}
+
+macro_rules! columns {
+    ($($column:ident: $of:literal, $name:literal, $from:literal, $width:literal, $count:expr;)*) => {
+        $(const $column: Column = Column { of: $of, name: $name, from: $from, width: $width, count: $count };)*
+        pub const COLUMNS: &[Column] = &[$($column),*];
+    };
+}
+
+columns! {
+    USED: "task", "in use", 0, 1, TASKS;
+    BASE: "task", "base priority", 32, 1, TASKS;
+    WORK: "task", "working priority", 64, 1, TASKS;
+    SUSPENDS: "task", "suspend count", 96, 1, TASKS;
+    STATE: "task", "state", 128, 1, TASKS;
+    OBJECT: "task", "object waited for", 160, 1, TASKS;
+    MARKED: "task", "has a due mark", 192, 1, TASKS;
+    OUTCOME: "task", "outcome", 224, 1, TASKS;
+    QUANTUM: "task", "quantum", 256, 2, TASKS;
+    LEFT: "task", "left of the quantum", 320, 2, TASKS;
+    DUE: "task", "due mark", 384, 4, TASKS;
+    SEMAPHORE_USED: "semaphore", "in use", 512, 1, OBJECTS;
+    COUNT: "semaphore", "count", 528, 4, OBJECTS;
+    MUTEX_USED: "mutex", "in use", 592, 1, OBJECTS;
+    HOLDER: "mutex", "holder plus 1", 608, 1, OBJECTS;
+    NESTING: "mutex", "nesting", 624, 1, OBJECTS;
+    SLOT: "queue", "slot", 640, 1, QUEUES * SLOTS;
+    TICK: "", "tick counter", 1696, 4, 1;
+    DEPTH: "", "lock depth", 1700, 1, 1;
+    RUNNING: "", "running task plus 1", 1701, 1, 1;
+}
+
+/// "There is no padding": each column begins where the one before it ends.
+const _: () = {
+    let (mut at, mut i) = (0, 0);
+    while i < COLUMNS.len() {
+        assert!(COLUMNS[i].from == at);
+        at += COLUMNS[i].width * COLUMNS[i].count;
+        i += 1;
+    }
+    assert!(at == IMAGE);
+};
+
+impl Column {
+    fn at(&self, i: usize) -> usize {
+        assert!(i < self.count);
+        self.from + self.width * i
+    }
+
+    pub fn get(&self, image: &[u8], i: usize) -> u32 {
+        image[self.at(i)..][..self.width].iter().rev().fold(0, |n, &byte| n << 8 | u32::from(byte))
+    }
+
+    /// What of the number is beyond the column's width is dropped.
+    pub fn put(&self, image: &mut [u8], i: usize, n: u32) {
+        image[self.at(i)..][..self.width].copy_from_slice(&n.to_le_bytes()[..self.width]);
+    }
+
+    pub fn differs(&self, one: &[u8], other: &[u8]) -> bool {
+        (0..self.count).any(|i| self.get(one, i) != self.get(other, i))
+    }
+
+    fn byte(&self, image: &[u8], i: usize) -> u8 {
+        self.get(image, i) as u8
+    }
+
+    fn flag(&self, image: &[u8], i: usize) -> Option<bool> {
+        match self.get(image, i) {
+            0 => Some(false),
+            1 => Some(true),
+            _ => None,
+        }
+    }
+
+    fn task_or_none(&self, image: &[u8], i: usize) -> Option<Option<usize>> {
+        match self.get(image, i) as usize {
+            0 => Some(None),
+            n if n <= TASKS => Some(Some(n - 1)),
+            _ => None,
+        }
+    }
+}
+
+/// "a task's number is written plus 1, and none is 0"
+fn plus_one(t: Option<usize>) -> u32 {
+    t.map_or(0, |t| t as u32 + 1)
+}
+
+impl Kernel {
+    pub fn encode(&self) -> Vec<u8> {
+        let mut image = vec![0; IMAGE];
+        let at = &mut image;
+        for (t, task) in self.tasks.iter().enumerate() {
+            encode_task(task, t, at);
+        }
+        for (s, semaphore) in self.semaphores.iter().enumerate() {
+            SEMAPHORE_USED.put(at, s, semaphore.used.into());
+            COUNT.put(at, s, semaphore.count);
+        }
+        for (m, mutex) in self.mutexes.iter().enumerate() {
+            MUTEX_USED.put(at, m, mutex.used.into());
+            HOLDER.put(at, m, plus_one(mutex.holder));
+            NESTING.put(at, m, mutex.nesting.into());
+        }
+        for (q, place) in Kernel::places().enumerate() {
+            for (slot, &t) in self.queue(place).iter().enumerate() {
+                SLOT.put(at, q * SLOTS + slot, plus_one(Some(t)));
+            }
+        }
+        TICK.put(at, 0, self.tick);
+        DEPTH.put(at, 0, self.depth.into());
+        RUNNING.put(at, 0, plus_one(self.running));
+        image
+    }
+
+    /// The table that an image shows, sound or not; none where a byte has no meaning.
+    pub fn decode(image: &[u8]) -> Option<Kernel> {
+        if image.len() != IMAGE {
+            return None;
+        }
+        let mut kernel = Kernel::fresh();
+        for t in 0..TASKS {
+            kernel.tasks[t] = decode_task(image, t)?;
+        }
+        for (s, semaphore) in kernel.semaphores.iter_mut().enumerate() {
+            semaphore.used = SEMAPHORE_USED.flag(image, s)?;
+            semaphore.count = COUNT.get(image, s);
+        }
+        for (m, mutex) in kernel.mutexes.iter_mut().enumerate() {
+            mutex.used = MUTEX_USED.flag(image, m)?;
+            mutex.holder = HOLDER.task_or_none(image, m)?;
+            mutex.nesting = NESTING.byte(image, m);
+        }
+        for (q, place) in Kernel::places().enumerate() {
+            *kernel.queue_mut(place) = decode_queue(image, q)?;
+        }
+        kernel.tick = TICK.get(image, 0);
+        kernel.depth = DEPTH.byte(image, 0);
+        kernel.running = RUNNING.task_or_none(image, 0)?;
+        Some(kernel)
+    }
+
+    /// A sound table, or the rules that the image breaks.
+    pub fn judge(image: &[u8]) -> Result<Kernel, Vec<usize>> {
+        let kernel = Kernel::decode(image).ok_or(vec![0usize])?;
+        match kernel.broken() {
+            broken if broken.is_empty() => Ok(kernel),
+            broken => Err(broken),
+        }
+    }
+}
+
+fn encode_task(task: &Task, t: usize, image: &mut [u8]) {
+    let (state, object) = match task.state {
+        State::Plain => (0, 0),
+        State::Delayed => (1, 0),
+        State::Semaphore(s) => (2, s),
+        State::Mutex(m) => (3, m),
+    };
+    USED.put(image, t, task.used.into());
+    BASE.put(image, t, task.base.into());
+    WORK.put(image, t, task.working.into());
+    SUSPENDS.put(image, t, task.suspends.into());
+    STATE.put(image, t, state);
+    OBJECT.put(image, t, object as u32);
+    MARKED.put(image, t, task.mark.is_some().into());
+    OUTCOME.put(image, t, task.outcome.into());
+    QUANTUM.put(image, t, task.quantum.into());
+    LEFT.put(image, t, task.left.into());
+    DUE.put(image, t, task.mark.unwrap_or(0));
+}
+
+fn decode_task(image: &[u8], t: usize) -> Option<Task> {
+    let object = OBJECT.get(image, t) as usize;
+    let state = match STATE.get(image, t) {
+        0 if object == 0 => State::Plain,
+        1 if object == 0 => State::Delayed,
+        2 if object < OBJECTS => State::Semaphore(object),
+        3 if object < OBJECTS => State::Mutex(object),
+        _ => return None,
+    };
+    let mark = match (MARKED.flag(image, t)?, DUE.get(image, t)) {
+        (true, mark) => Some(mark),
+        (false, 0) => None,
+        (false, _) => return None,
+    };
+    Some(Task {
+        used: USED.flag(image, t)?,
+        base: BASE.byte(image, t),
+        working: WORK.byte(image, t),
+        suspends: SUSPENDS.byte(image, t),
+        quantum: QUANTUM.get(image, t) as u16,
+        left: LEFT.get(image, t) as u16,
+        state,
+        mark,
+        outcome: OUTCOME.byte(image, t),
+    })
+}
+
+/// "A queue is packed to the front [..] the slots behind the last entry are 0."
+fn decode_queue(image: &[u8], q: usize) -> Option<Vec<usize>> {
+    let mut slots = vec![];
+    for slot in q * SLOTS..(q + 1) * SLOTS {
+        slots.push(SLOT.task_or_none(image, slot)?);
+    }
+    let filled = slots.iter().take_while(|slot| slot.is_some()).count();
+    if slots[filled..].iter().any(|slot| slot.is_some()) {
+        return None;
+    }
+    Some(slots[..filled].iter().flatten().copied().collect())
+}
+
+/// What a byte of the image means, for reports.
+pub fn meaning(offset: usize) -> String {
+    let holds = |column: &&Column| (column.from..column.from + column.width * column.count).contains(&offset);
+    match COLUMNS.iter().find(holds) {
+        None => "beyond the image".to_string(),
+        Some(column) => {
+            let (i, byte) = ((offset - column.from) / column.width, (offset - column.from) % column.width);
+            let part = if column.width > 1 { format!(", byte {byte}") } else { String::new() };
+            field(column, i) + &part
+        }
+    }
+}
+
+fn field(column: &Column, i: usize) -> String {
+    let name = column.name;
+    match (column.of, i / SLOTS, i % SLOTS) {
+        ("", ..) => name.to_string(),
+        ("queue", 0, slot) => format!("able queue, {name} {slot}"),
+        ("queue", q, slot) if q <= OBJECTS => format!("queue of semaphore {}, {name} {slot}", q - 1),
+        ("queue", q, slot) => format!("queue of mutex {}, {name} {slot}", q - 1 - OBJECTS),
+        (of, ..) => format!("{of} {i}: {name}"),
+    }
+}

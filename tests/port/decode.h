@@ -1,0 +1,56 @@
+/* The fields of an image by the offsets of docs/IMAGE.md, and by nothing of the library: what ntk_read is compared with. */
+#ifndef DECODE_H
+#define DECODE_H
+
+#include "nonthachak.h"
+
+/* A field, how many there are of it, where the first stands, and how many bytes each has; they stand one behind another. */
+struct column {
+    uint32_t field;
+    uint32_t count;
+    size_t from;
+    size_t width;
+};
+
+static const struct column columns[] = {
+    {NTK_FIELD_TASK_IN_USE, 32, 0, 1},
+    {NTK_FIELD_TASK_BASE, 32, 32, 1},
+    {NTK_FIELD_TASK_WORK, 32, 64, 1},
+    {NTK_FIELD_TASK_SUSPEND, 32, 96, 1},
+    {NTK_FIELD_TASK_STATE, 32, 128, 1},
+    {NTK_FIELD_TASK_OBJECT, 32, 160, 1},
+    {NTK_FIELD_TASK_MARKED, 32, 192, 1},
+    {NTK_FIELD_TASK_OUTCOME, 32, 224, 1},
+    {NTK_FIELD_TASK_QUANTUM, 32, 256, 2},
+    {NTK_FIELD_TASK_LEFT, 32, 320, 2},
+    {NTK_FIELD_TASK_DUE, 32, 384, 4},
+    {NTK_FIELD_SEMAPHORE_IN_USE, 16, 512, 1},
+    {NTK_FIELD_SEMAPHORE_COUNT, 16, 528, 4},
+    {NTK_FIELD_MUTEX_IN_USE, 16, 592, 1},
+    {NTK_FIELD_MUTEX_HOLDER, 16, 608, 1},
+    {NTK_FIELD_MUTEX_NESTING, 16, 624, 1},
+    {NTK_FIELD_QUEUE_SLOT, 1056, 640, 1},
+    {NTK_FIELD_TICK, 1, 1696, 4},
+    {NTK_FIELD_DEPTH, 1, 1700, 1},
+    {NTK_FIELD_RUNNING, 1, 1701, 1},
+};
+
+enum { COLUMNS = sizeof columns / sizeof columns[0] };
+
+static uint64_t decode(uint32_t field, uint32_t number, const uint8_t *image)
+{
+    size_t i, k;
+
+    for (i = 0; i < COLUMNS; i++) {
+        const struct column *c = &columns[i];
+        uint64_t shown = 0;
+        if (c->field != field || number >= c->count)
+            continue;
+        for (k = c->width; k > 0; k--)
+            shown = 256 * shown + image[c->from + number * c->width + k - 1];
+        return shown;
+    }
+    return NTK_NO_FIELD;
+}
+
+#endif

@@ -1,0 +1,173 @@
+/* ntk_read beside a decoder of the bytes: every field of every number, after each of some calls and on bytes at random; then what is
+ * unknown, and wrong lengths. */
+#include <stdio.h>
+#include <string.h>
+
+#include "decode.h"
+#include "nonthachak.h"
+
+static uint8_t table[2 * NTK_IMAGE_SIZE]; /* an image, and room for one that is too long */
+static unsigned long compared, wrong;
+
+static void expect(const char *what, uint32_t field, uint32_t number, uint64_t want, uint64_t got)
+{
+    compared++;
+    if (got == want)
+        return;
+    if (++wrong > 20)
+        return;
+    printf("fields: %s, field %lx, number %lu: %llx expected, not %llx\n", what, (unsigned long)field, (unsigned long)number,
+           (unsigned long long)want, (unsigned long long)got);
+}
+
+static void read_one(const char *what, uint32_t field, uint32_t number, size_t length, uint64_t want)
+{
+    expect(what, field, number, want, ntk_read(field, number, table, length));
+}
+
+/* Every number of every field. */
+static void read_all(const char *what)
+{
+    uint8_t before[sizeof table];
+    uint32_t n;
+    size_t i;
+
+    memcpy(before, table, sizeof table);
+    for (i = 0; i < COLUMNS; i++)
+        for (n = 0; n < columns[i].count; n++)
+            read_one(what, columns[i].field, n, NTK_IMAGE_SIZE, decode(columns[i].field, n, table));
+    expect("bytes that changed", 0, 0, 0, memcmp(before, table, sizeof table) != 0);
+}
+
+/* ---- calls */
+
+struct call {
+    uint8_t kind;
+    uint32_t a, b, c, answer;
+};
+
+/* Tasks 31, 5 and 0 in the order of their urgency: 31 holds a mutex twice over and waits for a semaphore, 5 waits for that mutex, 0 is
+ * delayed. 5 comes back by its limit, waits again and comes back by a forced delete; 31 by a post, and 0 by a delay resume. */
+static const struct call calls[] = {
+    {NTK_LOCK, 0, 0, 0, NTK_DONE},
+    {NTK_TASK_CREATE, 0, 62, 65535, NTK_DONE},
+    {NTK_TASK_CREATE, 31, 0, 1, NTK_DONE},
+    {NTK_TASK_CREATE, 5, 10, 300, NTK_DONE},
+    {NTK_UNLOCK, 0, 0, 0, NTK_DONE},
+    {NTK_MUTEX_CREATE, 0, 0, 0, NTK_DONE},
+    {NTK_MUTEX_CREATE, 15, 0, 0, NTK_DONE},
+    {NTK_MUTEX_WAIT, 15, 1, 0, NTK_DONE},
+    {NTK_MUTEX_WAIT, 15, 1, 0, NTK_DONE},
+    {NTK_SEMAPHORE_CREATE, 3, 4294967295u, 0, NTK_DONE},
+    {NTK_SEMAPHORE_CREATE, 15, 0, 0, NTK_DONE},
+    {NTK_CHANGE_PRIORITY, 5, 33, 0, NTK_DONE},
+    {NTK_SEMAPHORE_WAIT, 15, 1, 3000000000u, NTK_BLOCKS},
+    {NTK_MUTEX_WAIT, 15, 1, 2, NTK_BLOCKS},
+    {NTK_DELAY, 70000, 0, 0, NTK_DONE},
+    {NTK_TICK | NTK_INTERRUPT, 0, 0, 0, NTK_DONE},
+    {NTK_TICK | NTK_INTERRUPT, 0, 0, 0, NTK_DONE},
+    {NTK_SEMAPHORE_CREATE, 4, 0, 0, NTK_DONE},
+    {NTK_SEMAPHORE_WAIT, 4, 1, 0, NTK_BLOCKS},
+    {NTK_SUSPEND, 5, 0, 0, NTK_DONE},
+    {NTK_SUSPEND, 5, 0, 0, NTK_DONE},
+    {NTK_SEMAPHORE_POST | NTK_INTERRUPT, 15, 0, 0, NTK_DONE},
+    {NTK_LOCK, 0, 0, 0, NTK_DONE},
+    {NTK_LOCK, 0, 0, 0, NTK_DONE},
+    {NTK_TICK | NTK_INTERRUPT, 0, 0, 0, NTK_DONE},
+    {NTK_SEMAPHORE_DELETE, 4, 1, 0, NTK_DONE},
+    {NTK_DELAY_RESUME, 0, 0, 0, NTK_DONE},
+};
+
+static void play(void)
+{
+    uint32_t ticks = 0;
+    size_t i;
+
+    for (i = 0; i < sizeof calls / sizeof calls[0]; i++) {
+        const struct call *c = &calls[i];
+        struct ntk_outcome o = ntk_step(c->kind, c->a, c->b, c->c, table, NTK_IMAGE_SIZE);
+        ticks += c->kind == (NTK_TICK | NTK_INTERRUPT);
+        expect("the answer of a call", c->kind, (uint32_t)i, c->answer, o.answer);
+        read_all("after a call");
+        expect("ntk_running", 0, 0, o.runs, ntk_running(table));
+        expect("ntk_tick_count", 0, 0, ticks, ntk_tick_count(table));
+    }
+}
+
+/* What the calls have brought about, in the header's own words. */
+static void after_play(void)
+{
+    expect("task 31's state", 0, 31, NTK_PLAIN, ntk_read(NTK_FIELD_TASK_STATE, 31, table, NTK_IMAGE_SIZE));
+    expect("task 31's wait", 0, 31, NTK_GIVEN, ntk_wait_of(table, 31));
+    expect("task 5's wait", 0, 5, NTK_DELETED, ntk_wait_of(table, 5));
+    expect("the wait of no task", 0, 32, NTK_NO_SUCH_TASK, ntk_wait_of(table, 32));
+    expect("the wait of no task", 0, 4294967295u, NTK_NO_SUCH_TASK, ntk_wait_of(table, 4294967295u));
+    expect("task 5's priority", 0, 5, 33, ntk_priority_of(table, 5));
+    expect("the priority of no task", 0, 32, NTK_NO_FIELD, ntk_priority_of(table, 32));
+    expect("task 5's suspends", 0, 5, 2, ntk_read(NTK_FIELD_TASK_SUSPEND, 5, table, NTK_IMAGE_SIZE));
+    expect("mutex 15's holder", 0, 15, 32, ntk_read(NTK_FIELD_MUTEX_HOLDER, 15, table, NTK_IMAGE_SIZE));
+    expect("mutex 15's nesting", 0, 15, 2, ntk_read(NTK_FIELD_MUTEX_NESTING, 15, table, NTK_IMAGE_SIZE));
+    expect("semaphore 3's count", 0, 3, NTK_MOST_COUNT, ntk_read(NTK_FIELD_SEMAPHORE_COUNT, 3, table, NTK_IMAGE_SIZE));
+    expect("the first able task", 0, 0, 32, ntk_slot_of(table, NTK_ABLE_QUEUE, 0));
+    expect("the second able task", 0, 1, 1, ntk_slot_of(table, NTK_ABLE_QUEUE, 1));
+    expect("slot 32 of a queue", 0, 32, NTK_NO_FIELD, ntk_slot_of(table, NTK_ABLE_QUEUE, 32));
+    expect("a slot of no queue", 0, 0, NTK_NO_FIELD, ntk_slot_of(table, NTK_QUEUES, 0));
+    expect("a slot of no queue", 0, 0, NTK_NO_FIELD, ntk_slot_of(table, 134217728u, 0));
+}
+
+/* ---- bytes at random */
+
+static uint8_t some_byte(void)
+{
+    static uint32_t state = 20261115u;
+    state = 1664525u * state + 1013904223u;
+    return (uint8_t)(state >> 24);
+}
+
+static void at_random(void)
+{
+    int turn;
+    size_t i;
+
+    for (turn = 0; turn < 100; turn++) {
+        for (i = 0; i < sizeof table; i++)
+            table[i] = some_byte();
+        read_all("of bytes at random");
+    }
+    memset(table, 255, sizeof table);
+    read_all("of bytes that are all 255");
+}
+
+/* ---- what is unknown */
+
+static void unknown(void)
+{
+    static const uint32_t far[] = {1056, 1057, 65536, 65567, 2147483648u, 4294967264u, 4294967295u};
+    static const size_t lengths[] = {0, 1, 31, NTK_IMAGE_SIZE - 1, NTK_IMAGE_SIZE + 1, 2 * NTK_IMAGE_SIZE};
+    uint32_t field, n, bit;
+    size_t i, k;
+
+    for (field = 0; field < 256; field++) {
+        for (n = 0; n < 1100; n++)
+            read_one("of any number", field, n, NTK_IMAGE_SIZE, decode(field, n, table));
+        for (k = 0; k < sizeof far / sizeof far[0]; k++)
+            read_one("of a far number", field, far[k], NTK_IMAGE_SIZE, NTK_NO_FIELD);
+        for (bit = 256; bit != 0; bit *= 2)
+            read_one("of a far field", field + bit, 0, NTK_IMAGE_SIZE, NTK_NO_FIELD);
+        for (k = 0; k < sizeof lengths / sizeof lengths[0]; k++)
+            read_one("of a wrong length", field, 0, lengths[k], NTK_NO_FIELD);
+    }
+    for (i = 0; i < COLUMNS; i++)
+        read_one("of the number behind the last", columns[i].field, columns[i].count, NTK_IMAGE_SIZE, NTK_NO_FIELD);
+}
+
+int main(void)
+{
+    read_all("of zeroed memory");
+    play();
+    after_play();
+    at_random();
+    unknown();
+    printf("fields: %lu compared, %lu wrong\n", compared, wrong);
+    return wrong != 0;
+}
