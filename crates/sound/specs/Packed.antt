@@ -5,7 +5,7 @@ use mathlib.Core.Bool.{Bool, true, false, cond}
 use mathlib.Core.List.{List, [], _∷_}
 use Prim.Native.Nat.{ℕ, zero, suc, _+_, _*_, _≤_, _<_}
 use native.Mathlib.Decide.{ℕ-discrete}
-use native.Mathlib.Nat.{not-suc-le-zero}
+use native.Mathlib.Nat.{not-suc-le-zero, add-zero, add-suc}
 use native.Mathlib.Omega.{arith}
 use lib.Dec.{eqb}
 use lib.ListN.{length, getD}
@@ -117,6 +117,11 @@ frees-three q t =
     let two : q + 2 ≡ suc (suc q) = omega arith in
     let three : q + 3 ≡ suc (suc (suc q)) = omega arith in
     rw (one, two, three) (omega arith)
+
+pub frees-grow : (q n : ℕ) (t : Table) → frees q t ≤ frees (q + n) t
+unfolding frees
+frees-grow q zero t = rw (add-zero q) (omega arith)
+frees-grow q (suc n) t = rw (add-suc q n) (omega (arith, frees-grow q n t))
 
 pub frees-none : (t : Table) → 0 ≡ frees 0 t
 unfolding frees

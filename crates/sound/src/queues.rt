@@ -2,6 +2,7 @@
 ghost use mathlib.Core.Path.{_≡_};
 ghost use mathlib.Core.Bool.{cond};
 ghost use Prim.Native.Nat.{_+_, _≤_, _<_};
+ghost use lib.Dec.{eqb};
 ghost use lib.ListN.{length, getD};
 ghost use Rattle.queue.specs.Order.{one, count};
 ghost use Rattle.rules.specs.Sizes.{taskCount, mutexCount};
@@ -9,7 +10,7 @@ ghost use Rattle.rules.specs.Table.{taskOf, queueOf, queueCount};
 ghost use Rattle.rules.specs.Family.{placeOf};
 ghost use Rattle.rules.specs.Sound.{each, SoundTasks};
 ghost use Rattle.table.specs.Image.{Image, view};
-ghost use Rattle.sound.specs.Packed.{frees};
+ghost use Rattle.sound.specs.Packed.{frees, slotCount};
 ghost use Rattle.sound.specs.Queues.{Spotted, isMet};
 ghost use Rattle.sound.specs.Waits.{isHolderSound};
 ghost use Rattle.sound.specs.Whole.{areQueuesSound};
@@ -122,17 +123,21 @@ fn free_in_three(s: &[u8], q: usize) -> u8
     n
 }
 
-fn free_slots(s: &[u8]) -> usize
-    requires { ⌜ Image (now s) ⌝ }
-    ensures { λ r. ⌜ r ≡ frees queueCount (view (now (s .entry))) ⌝ }
+// Whether all slots but n are free. The count ends where it is too great: without that end the compiler counts all queues in one go, and keeps them on the stack.
+fn are_others_free(s: &[u8], n: usize) -> bool
+    requires { ⌜ (n ≤ slotCount + 1 + slotCount) × Image (now s) ⌝ }
+    ensures { λ r. ⌜ r ≡ eqb (n + frees queueCount (view (now (s .entry)))) slotCount ⌝ }
 {
-    let mut n = 0;
+    let mut m = n;
     let mut i = 0;
     while i < THREES {
-        n += free_in_three(s, 3 * i) as usize;
+        m += free_in_three(s, 3 * i) as usize;
+        if ALL_SLOTS < m {
+            return false;
+        }
         i += 1;
     }
-    n
+    m == ALL_SLOTS
 }
 
 // Queues, waits and holders. Each slot that is filled is one from the front of its queue on, where these and the free ones are all there are.
@@ -144,6 +149,5 @@ pub fn are_queues_right(s: &[u8]) -> bool
     fill_spots(s, &mut spots);
     let held = are_holders_right(s, &spots);
     let n = walk::walk_queues(s, &mut spots);
-    let free = free_slots(s);
-    (n + free == ALL_SLOTS) & (are_all_met(&spots) & held)
+    are_others_free(s, n) & (are_all_met(&spots) & held)
 }

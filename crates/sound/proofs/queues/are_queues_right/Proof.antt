@@ -6,11 +6,11 @@ use borrow.Author.Needs.{needs}
 use Rattle.sound.proofs.queues.are_queues_right.Statement.{statement}
 use Rattle.sound.proofs.queues.are_queues_right.Tie as tie
 
-add-result : tie.Need-add-result
-add-result c =
-    let w = c .before .before in
+are-others-free-requires : tie.Need-are-others-free-requires
+are-others-free-requires c κs =
+    let w = c .before in
     let a = w .before .before .before .before .before .before .before .before .args in
-    omega (arith, walked-most (view-shaped (a .s .now) (omega arith)) (w .walk-queues .ensures), c .free-slots .ensures)
+    (omega (arith, walked-most (view-shaped (a .s .now) (omega arith)) (w .walk-queues .ensures)), omega arith)
 
 returns : tie.Need-returns
 returns c =
@@ -29,8 +29,7 @@ are-queues-right-spec =
     (λ c κs. search needs)
     (λ c. search needs)
     (λ c κs. search needs)
-    (λ c κs. search needs)
-    add-result
+    are-others-free-requires
     (λ c. search needs)
     (λ c κs. search needs)
     returns)
