@@ -185,7 +185,7 @@ fn main() {
     if tape < 0 {
         return;
     }
-    let mut image = [0u8; 1702];
+    let mut image = [0u8; table::layout::IMAGE_SIZE];
     let mut input = [0u8; 4096];
     let mut lines = [0u8; 24576];
     let output = play_all(tape, &mut image, &mut input, &mut lines);

@@ -27,7 +27,7 @@ fn play_from(output: Output, image: &mut [u8], tape: &[u8]) -> Output
 }
 
 fn play(output: Output, tape: &[u8]) -> Output {
-    let mut image = [0u8; 1702];
+    let mut image = [0u8; table::layout::IMAGE_SIZE];
     play_from(output, &mut image, tape)
 }
 
@@ -116,7 +116,7 @@ fn run_only(start: Output) -> Output {
 
 // P5: a task is created, delays for 3 ticks, and three ticks come. No tape of a sensible length reaches the counter that it starts at.
 fn wrapping_mark(output: Output) -> Output {
-    let mut image = [0u8; 1702];
+    let mut image = [0u8; table::layout::IMAGE_SIZE];
     table::numbers::set_tick(&mut image, 4294967294);
     play_from(
         output.say(b"P5, a mark behind the wrap\n"),
