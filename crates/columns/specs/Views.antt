@@ -5,7 +5,7 @@ use mathlib.Core.Bool.{Bool, true}
 use mathlib.Core.List.{List, [], _∷_}
 use Prim.Native.Nat.{ℕ, suc, _+_, _-_, _≤_, _<_, _^_}
 use native.Mathlib.Nat.{not-suc-le-zero}
-use native.Mathlib.Decide.{ℕ-discrete, decLt}
+use native.Mathlib.Decide.{decLt}
 use native.Mathlib.Omega.{arith}
 use lib.Dec.{eqb}
 use borrow.Author.Tests.{eqb-true}
@@ -16,7 +16,7 @@ use Rattle.columns.specs.Words.{bytes-long, splice-long, numbers-long}
 use Rattle.columns.specs.Laws.{columns-at, entry-read, entry-put, within, column-within}
 use Rattle.columns.specs.Image.{lossless}
 use Rattle.columns.specs.Every.{every, every-at}
-use Rattle.columns.specs.Rows.{Kind, records, recordAt, change, withField, Outside, entry-same, entry-other, entry-apart, records-long, records-at, made-same, records-same, records-put, apart, records-show, change-none, change-change}
+use Rattle.columns.specs.Rows.{Kind, records, recordAt, change, withField, Outside, entry-same, records-long, records-at, made-same, records-same, records-put, apart, records-show, change-none, change-change}
 
 -- ---- definitions
 
@@ -57,17 +57,10 @@ withRow K j (v ∷ vs) x = withRow K (suc j) vs (withField K j v x)
 count-long : (cs : List Column) (k : ℕ) (l : List ℕ) → length (getD (columns cs l) k []) ≡ columnOf cs k .count
 count-long cs k l = rw (columns-at cs k l) (numbers-long (columnOf cs k .width) (columnOf cs k .count) (drop (offset cs k) l))
 
--- What is put is read, and nothing else changes.
+-- What is put is read.
 module _ (cs : List Column) (k i v : ℕ) (l : List ℕ) (t : total cs ≤ length l) (h : i < columnOf cs k .count) (f : v < 256 ^ columnOf cs k .width) where
   pub put-same : entry (columns cs (putAt (columnOf cs k .width) (place cs k i) v l)) k i ≡ v
   put-same = rw (entry-put cs k i v l t h f) (entry-same k i v (columns cs l) (omega (arith, count-long cs k l)))
-
-  pub put-else : (m j : ℕ) → ((m ≡ k) × (j ≡ i) → ⊥) → entry (columns cs (putAt (columnOf cs k .width) (place cs k i) v l)) m j ≡ entry (columns cs l) m j
-  put-else m j o = rw (entry-put cs k i v l t h f) (go (ℕ-discrete m k))
-    where
-      go : Dec (m ≡ k) → entry (withEntry k i v (columns cs l)) m j ≡ entry (columns cs l) m j
-      go (yes e) = entry-other k i v (columns cs l) (omega (arith, count-long cs k l)) m j (λ q. o (e, q))
-      go (no n) = entry-apart k i v (columns cs l) (omega (arith, count-long cs k l)) m j n
 
 -- Each place lies within the image.
 inside : (cs : List Column) (k i : ℕ) → i < columnOf cs k .count → place cs k i + columnOf cs k .width ≤ total cs

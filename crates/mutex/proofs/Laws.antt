@@ -1,14 +1,15 @@
 -- The calls on mutexes, case by case.
-use mathlib.Core.Path.{_≡_}
+use mathlib.Core.Path.{_≡_, _∙_}
 use mathlib.Core.Bool.{true, false, not}
 use Prim.Native.Nat.{ℕ, _+_, _-_, _≤_, _<_}
 use lib.Dec.{eqb}
 use borrow.Author.Tests.{le-leb, lt-leb, lt-ltb, le-ltb, eq-eqb, ne-eqb, not-true, not-false}
 use Rattle.rules.specs.Sizes.{mostNested, waitsMutex, given, done, nestedTooDeep}
-use Rattle.rules.specs.Table.{Table, taskOf, mutexOf, holderOf}
+use Rattle.rules.specs.Table.{Table, taskOf, mutexOf, holderOf, mutexQueue, noMutex, withMutex}
 use Rattle.rules.specs.Move.{put, walk, ready}
 use Rattle.rules.specs.Time.{callerOf}
-use Rattle.rules.specs.Object.{blockAnswer, blocked, waits, taken}
+use Rattle.rules.specs.Object.{blockAnswer, blocked, waits, taken, emptied, objectDelete}
+use Rattle.rules.specs.Family.{mutexes}
 use Rattle.rules.specs.Mutex.{withHoldOf, takeAnswer, wait, handed, released, post}
 
 module _ (i : ℕ) (t : Table) where
@@ -61,3 +62,9 @@ module _ (i : ℕ) (t : Table) where
   pub handed-some : (w : ℕ) → (w ≡ 0 → ⊥) → (u : Table) → u ≡ withHoldOf i w 1 t → put (w - 1) (ready given (taskOf u (w - 1))) u ≡ handed i w t
   unfolding handed
   handed-some w d u e = rw (ne-eqb w 0 d, e)
+
+  -- ---- a mutex that goes: its waiters are let go, its record is cleared, and the chain from its holder moves
+
+  pub deleted : {h : ℕ} {free stored moved : Table} → h ≡ holderOf t i → free ≡ emptied (mutexQueue i) t → stored ≡ withMutex i noMutex free → moved ≡ walk h stored → moved ≡ objectDelete mutexes i t
+  unfolding objectDelete
+  deleted holder e d m = m ∙ rw (holder, d, e)

@@ -17,11 +17,10 @@ pub fn create(s: &mut [u8], i: u32) -> u8
     requires { ⌜ Image (now s) ⌝ }
     ensures { λ r. ⌜ Served (objectCreateAnswer mutexes i (view (now (s .entry)))) (chosen (create i (view (now (s .entry))))) r (now (s .entry)) (now (s .exit)) ⌝ }
 {
-    if 16 <= i {
-        return 1;
-    }
-    if mutexes::get_used(s, i as usize) == 1 {
-        return 3;
+    let used = mutexes::used_at(s, i as usize);
+    let n = object::create_answer(used, 16, i);
+    if service::refuses(n) {
+        return n;
     }
     mutexes::store(
         s,
@@ -33,19 +32,16 @@ pub fn create(s: &mut [u8], i: u32) -> u8
         },
     );
     moves::choose(s);
-    0
+    n
 }
 
 pub fn delete(s: &mut [u8], i: u32, force: u32) -> u8
     requires { ⌜ Image (now s) ⌝ }
     ensures { λ r. ⌜ Served (objectDeleteAnswer mutexes i force (view (now (s .entry)))) (chosen (objectDelete mutexes i (view (now (s .entry))))) r (now (s .entry)) (now (s .exit)) ⌝ }
 {
-    if 16 <= i {
-        return 1;
-    }
-    let used = mutexes::get_used(s, i as usize);
+    let used = mutexes::used_at(s, i as usize);
     let holder = chain::holder_of(s, i as usize);
-    let n = object::delete_waiters(s, used, 17 + i as usize, force);
+    let n = object::delete_waiters(s, used, 16, 17, i, force);
     if service::refuses(n) {
         return n;
     }
@@ -99,17 +95,10 @@ pub fn wait(s: &mut [u8], i: u32, block: u32, limit: u32) -> u8
     requires { ⌜ Image (now s) ⌝ }
     ensures { λ r. ⌜ Served (waitAnswer i block (view (now (s .entry)))) (chosen (wait i limit (view (now (s .entry))))) r (now (s .entry)) (now (s .exit)) ⌝ }
 {
-    if numbers::get_running(s) == 0 {
-        return 6;
-    }
-    if 16 <= i {
-        return 1;
-    }
-    if !(mutexes::get_used(s, i as usize) == 1) {
-        return 2;
-    }
-    if 1 < block {
-        return 4;
+    let used = mutexes::used_at(s, i as usize);
+    let n = object::ask_answer(s, used, 16, i, block);
+    if service::refuses(n) {
+        return n;
     }
     take(s, i as usize, block, limit)
 }
@@ -188,9 +177,6 @@ pub fn abort(s: &mut [u8], i: u32) -> u8
     requires { ⌜ Image (now s) ⌝ }
     ensures { λ r. ⌜ Served (objectAbortAnswer mutexes i (view (now (s .entry)))) (chosen (objectAbort mutexes i (view (now (s .entry))))) r (now (s .entry)) (now (s .exit)) ⌝ }
 {
-    if 16 <= i {
-        return 1;
-    }
-    let used = mutexes::get_used(s, i as usize);
-    object::abort_first(s, used, 17 + i as usize)
+    let used = mutexes::used_at(s, i as usize);
+    object::abort_object(s, used, 16, 17, i)
 }

@@ -1,11 +1,12 @@
-// What the calls on every kind of object share. A kind asks itself whether number i is one of its own, and reads the byte that says
-// whether it is in use.
+// The calls that every kind of object has, on its numbers: how many there are, the first of their queues, and the byte that says whether
+// number i is in use. A kind stores what is its own.
 ghost use mathlib.Core.Path.{_≡_};
-ghost use mathlib.Core.Bool.{cond, not};
-ghost use Prim.Native.Nat.{_<_};
-ghost use Rattle.rules.specs.Table.{taskOf, isUsed, withTask};
+ghost use Prim.Native.Nat.{_+_, _<_};
+ghost use Rattle.rules.specs.Sizes.{done};
+ghost use Rattle.rules.specs.Table.{taskOf, withTask};
 ghost use Rattle.rules.specs.Move.{walk, chosen};
-ghost use Rattle.rules.specs.Object.{hasWaiter, blockAnswer, limited, blocked, taken, abortAnswer, abort, deleteAnswer, emptied};
+ghost use Rattle.rules.specs.Time.{byCaller};
+ghost use Rattle.rules.specs.Object.{onObject, createObject, yesNo, hasWaiter, blockAnswer, limited, blocked, taken, abortAnswer, abort, deleteAnswer, emptied};
 ghost use Rattle.table.specs.Image.{Image, view};
 ghost use Rattle.service.specs.Served.{Served};
 use chain::walk;
@@ -13,6 +14,39 @@ use service::ending;
 use table::moves;
 use table::numbers;
 use table::tasks;
+
+// The answer of a create of number i.
+pub fn create_answer(used: u8, count: u32, i: u32) -> u8
+    ensures { λ r. ⌜ r ≡ createObject count i used ⌝ }
+{
+    if count <= i {
+        return 1;
+    }
+    if used == 1 {
+        return 3;
+    }
+    0
+}
+
+// The answer of a wait for number i as far as it is every kind's: 0 where the kind is asked what it has to take.
+pub fn ask_answer(s: &[u8], used: u8, count: u32, i: u32, block: u32) -> u8
+    requires { ⌜ Image (now s) ⌝ }
+    ensures { λ r. ⌜ r ≡ byCaller (view (now (s .entry))) (onObject count i used (yesNo block done)) ⌝ }
+{
+    if numbers::get_running(s) == 0 {
+        return 6;
+    }
+    if count <= i {
+        return 1;
+    }
+    if !(used == 1) {
+        return 2;
+    }
+    if 1 < block {
+        return 4;
+    }
+    0
+}
 
 fn has_waiter(s: &[u8], q: usize) -> bool
     requires { ⌜ Image (now s) ⌝ }
@@ -78,15 +112,18 @@ pub fn wait_for(s: &mut [u8], state: u8, object: u8, holder: usize, block: u32, 
     14
 }
 
-// The abort of an object in range, whose queue is q.
-pub fn abort_first(s: &mut [u8], used: u8, q: usize) -> u8
+// The abort of number i.
+pub fn abort_object(s: &mut [u8], used: u8, count: u32, first: u8, i: u32) -> u8
     requires { ⌜ Image (now s) ⌝ }
-    ensures { λ r. ⌜ Served (cond (not (isUsed used)) 2 (abortAnswer q (view (now (s .entry))))) (chosen (abort q (view (now (s .entry))))) r (now (s .entry)) (now (s .exit)) ⌝ }
+    ensures { λ r. ⌜ Served (onObject count i used (abortAnswer (first + i) (view (now (s .entry))))) (chosen (abort (first + i) (view (now (s .entry))))) r (now (s .entry)) (now (s .exit)) ⌝ }
 {
+    if count <= i {
+        return 1;
+    }
     if !(used == 1) {
         return 2;
     }
-    let v = moves::first_in(s, q);
+    let v = moves::first_in(s, first as usize + i as usize);
     if v == 0 {
         return 12;
     }
@@ -95,17 +132,21 @@ pub fn abort_first(s: &mut [u8], used: u8, q: usize) -> u8
     0
 }
 
-// The answer of a delete of an object in range, whose queue is q; where it is done, each of its waiters is let go. Then the object goes.
-pub fn delete_waiters(s: &mut [u8], used: u8, q: usize, force: u32) -> u8
+// The answer of a delete of number i; where it is done, each of its waiters is let go. Then the object goes.
+pub fn delete_waiters(s: &mut [u8], used: u8, count: u32, first: u8, i: u32, force: u32) -> u8
     requires { ⌜ Image (now s) ⌝ }
-    ensures { λ r. ⌜ Served (cond (not (isUsed used)) 2 (deleteAnswer force q (view (now (s .entry))))) (emptied q (view (now (s .entry)))) r (now (s .entry)) (now (s .exit)) ⌝ }
+    ensures { λ r. ⌜ Served (onObject count i used (deleteAnswer force (first + i) (view (now (s .entry))))) (emptied (first + i) (view (now (s .entry)))) r (now (s .entry)) (now (s .exit)) ⌝ }
 {
+    if count <= i {
+        return 1;
+    }
     if !(used == 1) {
         return 2;
     }
     if 1 < force {
         return 4;
     }
+    let q = first as usize + i as usize;
     if (force == 0) & has_waiter(s, q) {
         return 13;
     }

@@ -9,18 +9,16 @@ ghost use Rattle.table.specs.Image.{Image, view};
 ghost use Rattle.service.specs.Served.{Served};
 use service::ending;
 use table::moves;
-use table::numbers;
 use table::semaphores;
 
 pub fn create(s: &mut [u8], i: u32, count: u32) -> u8
     requires { ⌜ Image (now s) ⌝ }
     ensures { λ r. ⌜ Served (objectCreateAnswer semaphores i (view (now (s .entry)))) (chosen (create i count (view (now (s .entry))))) r (now (s .entry)) (now (s .exit)) ⌝ }
 {
-    if 16 <= i {
-        return 1;
-    }
-    if semaphores::get_used(s, i as usize) == 1 {
-        return 3;
+    let used = semaphores::used_at(s, i as usize);
+    let n = object::create_answer(used, 16, i);
+    if service::refuses(n) {
+        return n;
     }
     semaphores::store(
         s,
@@ -31,18 +29,15 @@ pub fn create(s: &mut [u8], i: u32, count: u32) -> u8
         },
     );
     moves::choose(s);
-    0
+    n
 }
 
 pub fn delete(s: &mut [u8], i: u32, force: u32) -> u8
     requires { ⌜ Image (now s) ⌝ }
     ensures { λ r. ⌜ Served (objectDeleteAnswer semaphores i force (view (now (s .entry)))) (chosen (objectDelete semaphores i (view (now (s .entry))))) r (now (s .entry)) (now (s .exit)) ⌝ }
 {
-    if 16 <= i {
-        return 1;
-    }
-    let used = semaphores::get_used(s, i as usize);
-    let n = object::delete_waiters(s, used, 1 + i as usize, force);
+    let used = semaphores::used_at(s, i as usize);
+    let n = object::delete_waiters(s, used, 16, 1, i, force);
     if service::refuses(n) {
         return n;
     }
@@ -70,17 +65,10 @@ pub fn wait(s: &mut [u8], i: u32, block: u32, limit: u32) -> u8
     requires { ⌜ Image (now s) ⌝ }
     ensures { λ r. ⌜ Served (waitAnswer i block (view (now (s .entry)))) (chosen (wait i limit (view (now (s .entry))))) r (now (s .entry)) (now (s .exit)) ⌝ }
 {
-    if numbers::get_running(s) == 0 {
-        return 6;
-    }
-    if 16 <= i {
-        return 1;
-    }
-    if !(semaphores::get_used(s, i as usize) == 1) {
-        return 2;
-    }
-    if 1 < block {
-        return 4;
+    let used = semaphores::used_at(s, i as usize);
+    let n = object::ask_answer(s, used, 16, i, block);
+    if service::refuses(n) {
+        return n;
     }
     take(s, i as usize, block, limit)
 }
@@ -114,9 +102,6 @@ pub fn abort(s: &mut [u8], i: u32) -> u8
     requires { ⌜ Image (now s) ⌝ }
     ensures { λ r. ⌜ Served (objectAbortAnswer semaphores i (view (now (s .entry)))) (chosen (objectAbort semaphores i (view (now (s .entry))))) r (now (s .entry)) (now (s .exit)) ⌝ }
 {
-    if 16 <= i {
-        return 1;
-    }
-    let used = semaphores::get_used(s, i as usize);
-    object::abort_first(s, used, 1 + i as usize)
+    let used = semaphores::used_at(s, i as usize);
+    object::abort_object(s, used, 16, 1, i)
 }

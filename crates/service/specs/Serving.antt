@@ -43,6 +43,10 @@ module _ {n r : ℕ} {a : Table} {l m : List ℕ} {b : Bool} (d : Served n a r l
   pub serve-on : {new : Table} {k : List ℕ} → b ≡ false → view k ≡ new → Served n new r l k
   serve-on h = served (d .says) (not-false (changes r) (sym f ∙ h))
 
+-- A call that a part of its service served, in the words of the whole.
+pub told : {n n′ r : ℕ} {new new′ : Table} {l m : List ℕ} → n ≡ n′ → new ≡ new′ → Served n new r l m → Served n′ new′ r l m
+told e f s = record { says = s .says ∙ e; done = λ g. s .done g ∙ f; kept = s .kept }
+
 -- A call that goes on was accepted, with all that this tells of its numbers.
 pub accepted : (c : Call) (t : Table) → changes (answerTo c t) ≡ true → Presumes c t
 accepted c t h = answers false t c .holds h

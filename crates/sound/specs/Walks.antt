@@ -115,7 +115,12 @@ empty-more {t} {q} {r} e h z = record { from = omega (arith, e .from); within = 
     go p a b (yes d) = rw d z
     go p a b (no d) = e .empty p a (omega arith)
 
--- They are passed, and nothing changes.
+-- The first queue from q on that is not empty, `queueCount` where there is none.
+pub record NextFront (t : Table) (q r : ℕ) : Type 0 where
+  pub before : EmptyTo t q r
+  pub stops : r < queueCount → Empty r t → ⊥
+
+-- Empty ones are passed, and nothing changes.
 pub pass-skip : {t : Table} {spots₀ : List ℕ} (d : ℕ) {q : ℕ} {spots : List ℕ} {n : ℕ} → Shaped t → q + d ≤ queueCount → ((p : ℕ) → q ≤ p → p < q + d → Empty p t) → Passing t spots₀ q spots n → Passing t spots₀ (q + d) spots n
 pass-skip {t} {spots₀} zero {q} {spots} {n} s h f p = subst (λ (x : ℕ). Passing t spots₀ x spots n) (omega arith) p
 pass-skip {t} {spots₀} (suc d) {q} {spots} {n} s h f p =

@@ -8,7 +8,7 @@ ghost use Rattle.rules.specs.Table.{queueCount, works};
 ghost use Rattle.table.specs.Image.{Image, view};
 ghost use Rattle.sound.specs.Lines.{mayStand};
 ghost use Rattle.sound.specs.Waits.{isAwaited};
-ghost use Rattle.sound.specs.Walks.{QueueWalked, QueuePassed, EmptyTo, AllWalked};
+ghost use Rattle.sound.specs.Walks.{QueueWalked, QueuePassed, NextFront, AllWalked};
 use table::layout;
 use table::moves;
 use table::mutexes;
@@ -88,7 +88,7 @@ fn pass_queue(s: &[u8], spots: &mut [u8], q: usize) -> u8
 // The first queue from q on that is not empty, 33 where there is none.
 fn next_front(s: &[u8], q: usize) -> usize
     requires { ⌜ (q ≤ queueCount) × Image (now s) ⌝ }
-    ensures { λ r. ⌜ EmptyTo (view (now (s .entry))) q r ⌝ }
+    ensures { λ r. ⌜ NextFront (view (now (s .entry))) q r ⌝ }
 {
     let mut at = q;
     while at < layout::QUEUES {

@@ -192,14 +192,6 @@ pub fn slot_in(s: &[u8], q: usize, j: usize) -> u8
     s[layout::QUEUE + layout::SLOTS * q + j]
 }
 
-// The second of queue q, in the same way.
-pub fn second_in(s: &[u8], q: usize) -> u8
-    requires { ⌜ (q < queueCount) × Image (now s) ⌝ }
-    ensures { λ r. ⌜ r ≡ getD (queueOf (view (now (s .entry))) q) 1 0 ⌝ }
-{
-    slot_in(s, q, 1)
-}
-
 // At depth 0 the first able task runs.
 pub fn choose(s: &mut [u8])
     requires { ⌜ Image (now s) ⌝ }

@@ -13,6 +13,17 @@ pub fn get_used(s: &[u8], i: usize) -> u8
     columns::get1(s, layout::MUTEX_USED, i)
 }
 
+// The same of every number, 0 where it is no mutex's: a service may ask before it knows the range.
+pub fn used_at(s: &[u8], i: usize) -> u8
+    requires { ⌜ Image (now s) ⌝ }
+    ensures { λ r. ⌜ r ≡ mutexOf (view (now (s .entry))) i .used ⌝ }
+{
+    if layout::MUTEXES <= i {
+        return 0;
+    }
+    get_used(s, i)
+}
+
 pub fn get_holder(s: &[u8], i: usize) -> u8
     requires { ⌜ (i < mutexCount) × Image (now s) ⌝ }
     ensures { λ r. ⌜ r ≡ mutexOf (view (now (s .entry))) i .holder ⌝ }

@@ -13,6 +13,17 @@ pub fn get_used(s: &[u8], i: usize) -> u8
     columns::get1(s, layout::SEMAPHORE_USED, i)
 }
 
+// The same of every number, 0 where it is no semaphore's: a service may ask before it knows the range.
+pub fn used_at(s: &[u8], i: usize) -> u8
+    requires { ⌜ Image (now s) ⌝ }
+    ensures { λ r. ⌜ r ≡ semaphoreOf (view (now (s .entry))) i .used ⌝ }
+{
+    if layout::SEMAPHORES <= i {
+        return 0;
+    }
+    get_used(s, i)
+}
+
 pub fn get_count(s: &[u8], i: usize) -> u32
     requires { ⌜ (i < semaphoreCount) × Image (now s) ⌝ }
     ensures { λ r. ⌜ r ≡ semaphoreOf (view (now (s .entry))) i .count ⌝ }

@@ -93,7 +93,7 @@ fn is_second_peer(s: &[u8], i: usize) -> bool
     requires { ⌜ Image (now s) ⌝ }
     ensures { λ r. ⌜ r ≡ isSecondPeer i (view (now (s .entry))) ⌝ }
 {
-    let v = moves::second_in(s, 0);
+    let v = moves::slot_in(s, 0, 1);
     if v == 0 {
         return false;
     }

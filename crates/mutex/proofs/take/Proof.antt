@@ -1,8 +1,7 @@
 use mathlib.Core.Path.{refl, ap, _∙_}
 use Rattle.rules.specs.Move.{chosen}
 use Rattle.table.specs.Image.{view}
-use Rattle.service.specs.Serving.{refused, served}
-use Rattle.object.specs.Told.{told}
+use Rattle.service.specs.Serving.{refused, served, told}
 use Rattle.mutex.proofs.Laws.{takes-answer, takes, blocks-answer, blocks, deep-answer, nests-answer, nests}
 use borrow.Author.Needs.{needs}
 use Rattle.mutex.proofs.take.Statement.{statement}

@@ -1,51 +1,45 @@
-use mathlib.Core.Path.{refl}
-use borrow.Author.Tests.{le-leb, lt-leb, lt-ltb, le-ltb, eq-eqb, ne-eqb}
 use Rattle.rules.specs.Mutex.{waitAnswer}
-use Rattle.service.specs.Serving.{refused}
-use Rattle.object.specs.Told.{told}
+use Rattle.rules.specs.Family.{mutexes}
+use Rattle.table.specs.Image.{view}
+use Rattle.object.specs.Answers.{not-asked, asked-range, asked}
 use borrow.Author.Needs.{needs}
 use Rattle.mutex.proofs.wait.Statement.{statement}
 use Rattle.mutex.proofs.wait.Tie as tie
 
 returns : tie.Need-returns
 unfolding waitAnswer
-returns c = refused (rw (← c .before .get-running .ensures, eq-eqb _ _ (c .if1 .taken))) refl
+returns c =
+    let q = c .before .before in
+    let u = q .before .before in
+    let a = u .before .before .before .args in
+    not-asked mutexes (a .i) (a .block) (view (a .s .now)) (u .used-at .ensures) (q .ask-answer .ensures) (c .before .refuses .ensures) _ (c .if1 .taken)
+
+take-requires : tie.Need-take-requires
+take-requires c κs =
+    let e = c .before in
+    let q = e .before .before in
+    let u = q .before .before in
+    let a = u .before .before .before .args in
+    (asked-range mutexes (a .i) (a .block) (view (a .s .now)) (u .used-at .ensures) (q .ask-answer .ensures) (e .before .refuses .ensures) (e .if1 .left), search needs)
 
 returns-2 : tie.Need-returns-2
 unfolding waitAnswer
-returns-2 c = refused (rw (← c .before .before .get-running .ensures, ne-eqb _ _ (c .before .if1 .left), le-leb _ _ (c .if2 .taken))) refl
-
-returns-3 : tie.Need-returns-3
-unfolding waitAnswer
-returns-3 c = refused (rw (← c .before .before .before .before .before .get-running .ensures, ne-eqb _ _ (c .before .before .before .before .if1 .left), lt-leb _ _ (c .before .before .before .if2 .left), ← c .before .get-used .ensures, c .if3 .taken)) refl
-
-returns-4 : tie.Need-returns-4
-unfolding waitAnswer
-returns-4 c =
-    let u = c .before .before in
-    refused (rw (← u .before .before .before .before .get-running .ensures, ne-eqb _ _ (u .before .before .before .if1 .left), lt-leb _ _ (u .before .before .if2 .left), ← u .get-used .ensures, c .before .if3 .left, lt-ltb _ _ (c .if4 .taken))) refl
-
-returns-5 : tie.Need-returns-5
-unfolding waitAnswer
-returns-5 c =
-    let b = c .before .before .before .before in
-    let u = b .before .before in
-    told (rw (← u .before .before .before .before .get-running .ensures, ne-eqb _ _ (u .before .before .before .if1 .left), lt-leb _ _ (u .before .before .if2 .left), ← u .get-used .ensures, b .before .if3 .left, le-ltb _ _ (b .if4 .left))) refl (c .before .before .take .ensures)
+returns-2 c =
+    let e = c .before .before .before .before in
+    let q = e .before .before in
+    let u = q .before .before in
+    let a = u .before .before .before .args in
+    asked mutexes (a .i) (a .block) (view (a .s .now)) (u .used-at .ensures) (q .ask-answer .ensures) (e .before .refuses .ensures) _ (e .if1 .left) (c .before .before .take .ensures)
 
 pub wait-spec : {M : Type 1} → statement M
 wait-spec =
     tie.close
     (tie.spec
     (λ c κs. search needs)
+    (λ c κs. search needs)
+    (λ c κs. search needs)
     (λ c. search needs)
     returns
+    take-requires
     (λ c. search needs)
-    returns-2
-    (λ c κs. search needs)
-    (λ c. search needs)
-    returns-3
-    (λ c. search needs)
-    returns-4
-    (λ c κs. search needs)
-    (λ c. search needs)
-    returns-5)
+    returns-2)

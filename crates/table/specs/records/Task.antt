@@ -7,14 +7,12 @@ use mathlib.Core.List.{List}
 use Prim.Native.Nat.{ℕ, _≤_, _<_}
 use native.Mathlib.Nat.{zero-add}
 use native.Mathlib.Omega.{arith}
-use lib.ListN.{length}
-use lib.Seq.{getD-set-same, set-set}
 use Rattle.columns.specs.Every.{every}
 use Rattle.columns.specs.Views.{alike, stored, record-read, putRow, RowFits, withRow, row-put, row-kept, row-entry}
 use Rattle.columns.specs.Runs.{row-run}
 use Rattle.columns.specs.Whole.{Fit, row-fit}
 use Rattle.rules.specs.declared.Task.{Task}
-use Rattle.rules.specs.Table.{Table, noTask, queueCount, taskOf, withTask}
+use Rattle.rules.specs.Table.{queueCount, taskOf, withTask}
 use Rattle.rules.specs.Family.{ofState, objectsIn}
 use Rattle.rules.specs.Sizes.{taskCount, waitsSemaphore, waitsMutex}
 use Rattle.rules.specs.Sound.{TaskInRange, marksIn}
@@ -24,6 +22,7 @@ use Rattle.table.specs.kinds.Semaphore as semaphore
 use Rattle.table.specs.kinds.Mutex as mutex
 use Rattle.table.specs.Image.{queueFirst, tickColumn, depthColumn, runningColumn, layout, Image, view}
 use Rattle.table.specs.Shape.{view-shaped}
+use Rattle.table.specs.Settled.{then-stored}
 
 -- Its columns have one count.
 pub even : alike task.kind layout ≡ true
@@ -50,17 +49,11 @@ module _ (l m : List ℕ) (i j : ℕ) (vs : List ℕ) (h : Image l) where
         running = row-entry task.kind layout even vs j i l (omega arith) q f runningColumn 0 (inr (omega arith)) x;
       }
 
--- Two changes of one task are one.
-pub again : (i : ℕ) (k : Task) (f : Task → Task) (t : Table) → i < length (t .tasks) → withTask i (f (taskOf (withTask i k t) i)) (withTask i k t) ≡ withTask i (f k) t
-again i k f t h = rw (getD-set-same (t .tasks) i k noTask h, set-set (t .tasks) i k (f k))
-
 -- Numbers in a task's columns from j on, behind those of another store.
 pub put-then : (l m n : List ℕ) (i j : ℕ) (vs : List ℕ) (k : Task) → Image l → Image m → i < taskCount → RowFits task.kind layout j vs → view m ≡ withTask i k (view l) → n ≡ putRow task.kind layout i j vs m
     → view n ≡ withTask i (withRow task.kind j vs k) (view l)
 put-then l m n i j vs k h hm q f a b =
-    put m n i j vs hm q f b
-    ∙ ap (λ (t : Table). withTask i (withRow task.kind j vs (taskOf t i)) t) a
-    ∙ again i k (withRow task.kind j vs) (view l) (omega (arith, view-shaped l h .tasks))
+    put m n i j vs hm q f b ∙ then-stored i (view l) q (view-shaped l h .tasks) (withRow task.kind j vs) k (view m) a
 
 -- ---- what fits its columns
 

@@ -18,7 +18,9 @@ loop-holds : tie.Need-loop-holds Inv-loop μ-loop
 loop-holds c = record { from = omega arith; within = omega arith; empty = λ p a b. absurd (omega arith) }
 
 returns : tie.Need-returns Inv-loop μ-loop
-returns c = c .before .before .before .loop .inv
+returns c =
+    let l = c .before .before .before in
+    record { before = l .loop .inv; stops = λ h z. omega (arith, c .before .first-in .ensures) }
 
 loop-again : tie.Need-loop-again Inv-loop μ-loop
 loop-again c =
@@ -27,7 +29,7 @@ loop-again c =
     empty-more (l .loop .inv) (omega arith) z
 
 returns-2 : tie.Need-returns-2 Inv-loop μ-loop
-returns-2 c = c .before .loop .inv
+returns-2 c = record { before = c .before .loop .inv; stops = λ h z. omega arith }
 
 pub next-front-spec : {M : Type 1} → statement M
 next-front-spec =

@@ -19,7 +19,7 @@ abbrev μ-loop : tie.MeasureT-loop
 loop-holds : tie.Need-loop-holds Inv-loop μ-loop
 loop-holds c =
     let b = c .before .before .before in
-    let e = c .next-front .ensures in
+    let e = c .next-front .ensures .before in
     (e .within, pass-over (view-shaped (b .args .s .now) (b .pre .0)) e (pass-start (b .pre .1)))
 
 pass-queue-requires : tie.Need-pass-queue-requires Inv-loop μ-loop
@@ -39,14 +39,14 @@ add-n : tie.Need-add-n Inv-loop μ-loop
 add-n c = omega (arith, c .before .before .before .before .before .before .loop .inv .1 .most)
 
 loop-less : tie.Need-loop-less Inv-loop μ-loop
-loop-less c = omega (arith, c .next-front2 .ensures .from)
+loop-less c = omega (arith, c .next-front2 .ensures .before .from)
 
 loop-again : tie.Need-loop-again Inv-loop μ-loop
 loop-again c =
     let p = c .before .before .before .before in
     let l = p .before .before .before .loop in
     let b = p .before .before .before .before .before .before .before in
-    let e = c .next-front2 .ensures in
+    let e = c .next-front2 .ensures .before in
     (e .within, pass-over (view-shaped (b .args .s .now) (b .pre .0)) e (pass-next (l .inv .1) (omega arith) (view-slots (b .args .s .now) (b .pre .0) (l .q) (omega arith)) (p .pass-queue .ensures) (omega arith)))
 
 same-length-2 : tie.Need-same-length-2 Inv-loop μ-loop
