@@ -14,4 +14,3 @@ pub mod Mutex
 pub mod Calls
 pub mod Sounds
 pub mod Always
-pub mod Sentences
