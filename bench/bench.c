@@ -126,6 +126,11 @@ static const struct {
     {NTK_MUTEX_WAIT, "mutex wait"},
     {NTK_MUTEX_POST, "mutex post"},
     {NTK_MUTEX_ABORT, "mutex abort"},
+    {NTK_GROUP_CREATE, "group create"},
+    {NTK_GROUP_DELETE, "group delete"},
+    {NTK_GROUP_WAIT, "group wait"},
+    {NTK_GROUP_POST, "group post"},
+    {NTK_GROUP_ABORT, "group abort"},
 };
 
 enum { KINDS = sizeof kinds / sizeof kinds[0], BEST = 3 };
@@ -209,7 +214,7 @@ static void print_tests(const double all[TIMED])
     for (q = 0; q <= SEQUENCES; q++) {
         const double *ns = q < SEQUENCES ? ns_of_sequence[q] : all;
         double test = ns[STEP] - ns[SERVE];
-        printf("%-18s%10.1f%10.1f%12.1f\n", q < SEQUENCES ? sequences[q]->name : "mean of the four", ns[PASS], test, test / ns[PASS]);
+        printf("%-18s%10.1f%10.1f%12.1f\n", q < SEQUENCES ? sequences[q]->name : "mean of the five", ns[PASS], test, test / ns[PASS]);
     }
 }
 
@@ -224,7 +229,7 @@ static void print_sequences(void)
         for (v = 0; v < TIMED; v++)
             all[v] += ns_of_sequence[q][v] / SEQUENCES;
     }
-    print_row("mean of the four", all);
+    print_row("mean of the five", all);
     print_tests(all);
 }
 

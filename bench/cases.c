@@ -47,9 +47,21 @@ static void make(unsigned kind, uint32_t a, uint32_t b, uint32_t c)
     must(&built, kind, a, b, c);
 }
 
+static void make_wait(uint32_t group, uint32_t limit, uint32_t mask, enum ntk_test test)
+{
+    must_call(&built, (struct call){NTK_GROUP_WAIT, {group, 1, limit, mask, test, 1}});
+}
+
 static void bad_case(const char *name, unsigned kind, uint32_t a, uint32_t b, uint32_t c)
 {
-    struct call call = {(uint8_t)kind, a, b, c};
+    struct call call = {(uint8_t)kind, {a, b, c}};
+
+    add_case(name, &built, &call);
+}
+
+static void bad_wait(const char *name, uint32_t group, uint32_t limit, uint32_t mask, enum ntk_test test)
+{
+    struct call call = {NTK_GROUP_WAIT, {group, 1, limit, mask, test, 1}};
 
     add_case(name, &built, &call);
 }
@@ -105,6 +117,29 @@ static void build_waiters(void)
     bad_case("the 32nd waiter, before all", NTK_SEMAPHORE_WAIT, 0, 1, 5);
     bad_case("31 waiters time out", NTK_TICK, 0, 0, 0);
     bad_case("31 waiters, forced", NTK_SEMAPHORE_DELETE, 0, 1, 0);
+}
+
+/* 31 tasks wait for flags of a group, each for one of its own and for one that all want; one runs. */
+static void build_flags(void)
+{
+    unsigned i;
+
+    plain_fresh(&built);
+    bad_case("a group in the fresh table", NTK_GROUP_CREATE, 0, 0, 0);
+    make(NTK_GROUP_CREATE, 0, 0, 0);
+    for (i = 0; i < 31; i++) {
+        make(NTK_TASK_CREATE, i, 60 - i, 0);
+        make_wait(0, 1, UINT32_C(1) << 31 | UINT32_C(1) << i, i % 2 ? NTK_ALL_SET : NTK_ANY_SET);
+    }
+    make(NTK_TASK_CREATE, 31, 10, 0);
+    bad_wait("the 32nd waiter for flags, before all", 0, 5, UINT32_MAX, NTK_ALL_SET);
+    bad_case("31 waiters for flags, none met", NTK_GROUP_POST, 0, 1, 0);
+    bad_case("31 waiters for flags, every second met", NTK_GROUP_POST, 0, UINT32_C(1) << 31, 1);
+    bad_case("31 waiters for flags, all met", NTK_GROUP_POST, 0, UINT32_MAX, 1);
+    bad_case("31 waiters for flags time out", NTK_TICK, 0, 0, 0);
+    bad_case("31 waiters for flags", NTK_GROUP_ABORT, 0, 0, 0);
+    bad_case("31 waiters for flags, forced", NTK_GROUP_DELETE, 0, 1, 0);
+    bad_case("the last of 31 waiters for flags goes first", NTK_CHANGE_PRIORITY, 0, 1, 0);
 }
 
 /* 32 tasks sleep until the same tick. */
@@ -224,6 +259,7 @@ static void build_cases(void)
 
     build_equals();
     build_waiters();
+    build_flags();
     build_sleepers();
     build_chain(0, 0);
     build_chain(1, 0);

@@ -22,7 +22,7 @@ static struct call tick_of(struct plain *k, unsigned n)
         must(k, NTK_DELAY, 1000, 0, 0);
     }
     must(k, NTK_TASK_CREATE, 0, 60, 0);
-    return (struct call){NTK_TICK | NTK_INTERRUPT, 0, 0, 0};
+    return (struct call){NTK_TICK | NTK_INTERRUPT, {0}};
 }
 
 /* n tasks wait for semaphore 0, each before those that came earlier. */
@@ -42,14 +42,41 @@ static void queue_up(struct plain *k, unsigned n)
 static struct call join_of(struct plain *k, unsigned n)
 {
     queue_up(k, n - 1);
-    return (struct call){NTK_SEMAPHORE_WAIT, 0, 1, 0};
+    return (struct call){NTK_SEMAPHORE_WAIT, {0, 1}};
 }
 
 /* The first of n waiters is given the semaphore. */
 static struct call leave_of(struct plain *k, unsigned n)
 {
     queue_up(k, n);
-    return (struct call){NTK_SEMAPHORE_POST, 0, 0, 0};
+    return (struct call){NTK_SEMAPHORE_POST, {0}};
+}
+
+/* n tasks wait for flags 0 and 1 of a group, each before those that came earlier. */
+static void wait_for_flags(struct plain *k, unsigned n)
+{
+    unsigned i;
+
+    must(k, NTK_GROUP_CREATE, 0, 0, 0);
+    for (i = 0; i < n; i++) {
+        must(k, NTK_TASK_CREATE, i, 60 - i, 0);
+        must_call(k, (struct call){NTK_GROUP_WAIT, {0, 1, 0, 3, NTK_ALL_SET, 1}});
+    }
+    must(k, NTK_TASK_CREATE, 31, 5, 0);
+}
+
+/* A post that meets none of n waiters. */
+static struct call pass_of(struct plain *k, unsigned n)
+{
+    wait_for_flags(k, n);
+    return (struct call){NTK_GROUP_POST, {0, 1, 1}};
+}
+
+/* A post that meets all of n waiters. */
+static struct call wake_of(struct plain *k, unsigned n)
+{
+    wait_for_flags(k, n);
+    return (struct call){NTK_GROUP_POST, {0, 3, 1}};
 }
 
 /* Tasks 1 to n hold a mutex each, and each but the first waits for that of the one before; task 0, the most urgent, runs. */
@@ -71,7 +98,7 @@ static void link_up(struct plain *k, unsigned n)
 static struct call rise_of(struct plain *k, unsigned n)
 {
     link_up(k, n);
-    return (struct call){NTK_MUTEX_WAIT, n - 1, 1, 0};
+    return (struct call){NTK_MUTEX_WAIT, {n - 1, 1}};
 }
 
 /* Its wait is aborted: all n fall. */
@@ -79,7 +106,7 @@ static struct call fall_of(struct plain *k, unsigned n)
 {
     link_up(k, n);
     must(k, NTK_MUTEX_WAIT, n - 1, 1, 0);
-    return (struct call){NTK_MUTEX_ABORT, n - 1, 0, 0};
+    return (struct call){NTK_MUTEX_ABORT, {n - 1}};
 }
 
 static const struct {
@@ -90,6 +117,8 @@ static const struct {
     {"tick, none due", "tasks in use", 32, tick_of},
     {"semaphore wait", "in its queue", 32, join_of},
     {"semaphore post", "in its queue", 31, leave_of},
+    {"flag post: none", "in its queue", 31, pass_of},
+    {"flag post: all", "in its queue", 31, wake_of},
     {"mutex wait: rises", "holders in the chain", 16, rise_of},
     {"mutex abort: falls", "holders in the chain", 16, fall_of},
 };

@@ -4,15 +4,16 @@
 #include <stddef.h>
 #include <string.h>
 
-enum { QUEUES = 1 + 2 * PLAIN_OBJECTS };
+enum { QUEUES = 1 + 2 * PLAIN_OBJECTS + PLAIN_GROUPS };
 
 /* Single bytes alone, so that there is no padding. */
 struct columns {
     struct {
         uint8_t used[PLAIN_TASKS], base[PLAIN_TASKS], work[PLAIN_TASKS], suspend[PLAIN_TASKS];
         uint8_t state[PLAIN_TASKS], object[PLAIN_TASKS], marked[PLAIN_TASKS], outcome[PLAIN_TASKS];
+        uint8_t test[PLAIN_TASKS], consume[PLAIN_TASKS];
         uint8_t quantum[PLAIN_TASKS][2], left[PLAIN_TASKS][2];
-        uint8_t due[PLAIN_TASKS][4];
+        uint8_t due[PLAIN_TASKS][4], mask[PLAIN_TASKS][4];
     } task;
     struct {
         uint8_t used[PLAIN_OBJECTS];
@@ -21,16 +22,23 @@ struct columns {
     struct {
         uint8_t used[PLAIN_OBJECTS], holder[PLAIN_OBJECTS], nesting[PLAIN_OBJECTS];
     } mutex;
+    struct {
+        uint8_t used[PLAIN_GROUPS];
+        uint8_t flags[PLAIN_GROUPS][4];
+    } group;
     uint8_t queue[QUEUES][PLAIN_TASKS];
     uint8_t tick[4], depth, running;
 };
 
-_Static_assert(offsetof(struct columns, task.quantum) == 256, "quanta");
-_Static_assert(offsetof(struct columns, task.due) == 384, "due marks");
-_Static_assert(offsetof(struct columns, semaphore) == 512, "semaphores");
-_Static_assert(offsetof(struct columns, mutex) == 592, "mutexes");
-_Static_assert(offsetof(struct columns, queue) == 640, "queues");
-_Static_assert(offsetof(struct columns, tick) == 1696, "tick");
+_Static_assert(offsetof(struct columns, task.test) == 256, "tests");
+_Static_assert(offsetof(struct columns, task.quantum) == 320, "quanta");
+_Static_assert(offsetof(struct columns, task.due) == 448, "due marks");
+_Static_assert(offsetof(struct columns, task.mask) == 576, "masks");
+_Static_assert(offsetof(struct columns, semaphore) == 704, "semaphores");
+_Static_assert(offsetof(struct columns, mutex) == 784, "mutexes");
+_Static_assert(offsetof(struct columns, group) == 832, "groups");
+_Static_assert(offsetof(struct columns, queue) == 872, "queues");
+_Static_assert(offsetof(struct columns, tick) == 2184, "tick");
 _Static_assert(sizeof(struct columns) == NTK_IMAGE_SIZE, "size");
 
 static void put16(uint8_t at[2], uint32_t n)
@@ -60,6 +68,9 @@ static void put_task(struct columns *to, const struct plain *k, unsigned i)
     put16(to->task.quantum[i], t->quantum);
     put16(to->task.left[i], t->left);
     put32(to->task.due[i], t->mark);
+    to->task.test[i] = (uint8_t)k->wanted[i].test;
+    to->task.consume[i] = (uint8_t)k->wanted[i].consume;
+    put32(to->task.mask[i], k->wanted[i].mask);
 }
 
 static void put_objects(struct columns *to, const struct plain *k, unsigned i)
@@ -71,6 +82,12 @@ static void put_objects(struct columns *to, const struct plain *k, unsigned i)
     to->mutex.used[i] = m->used;
     to->mutex.holder[i] = m->used && m->holder != PLAIN_NONE ? m->holder + 1 : 0;
     to->mutex.nesting[i] = m->nesting;
+}
+
+static void put_group(struct columns *to, const struct plain *k, unsigned i)
+{
+    to->group.used[i] = (uint8_t)k->group[i].used;
+    put32(to->group.flags[i], k->group[i].flags);
 }
 
 /* Queue 0 is that of the able tasks. */
@@ -94,6 +111,8 @@ void image_of(const struct plain *k, uint8_t image[NTK_IMAGE_SIZE])
         put_task(&to, k, i);
     for (i = 0; i < PLAIN_OBJECTS; i++)
         put_objects(&to, k, i);
+    for (i = 0; i < PLAIN_GROUPS; i++)
+        put_group(&to, k, i);
     for (i = 0; i < QUEUES; i++)
         put_queue(&to, k, i);
     put32(to.tick, k->tick);

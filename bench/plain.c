@@ -196,6 +196,11 @@ static inline void become_plain(struct plain *k, unsigned i, uint8_t outcome)
     join_if_able(k, i);
 }
 
+static inline void want_nothing(struct plain *k, unsigned i)
+{
+    memset(&k->wanted[i], 0, sizeof k->wanted[i]);
+}
+
 /* Task i no longer waits for the mutex that h holds and has left its queue: the chain from h moves. */
 static inline void lower_behind(struct plain *k, unsigned i, unsigned h)
 {
@@ -212,6 +217,8 @@ static void end_wait(struct plain *k, unsigned i, uint8_t outcome)
     if (t->state == PLAIN_WAITS_MUTEX) {
         t->state = PLAIN_PLAIN;
         lower_behind(k, i, k->mutex[t->object].holder);
+    } else if (t->state == PLAIN_WAITS_FLAGS) {
+        want_nothing(k, i);
     }
     become_plain(k, i, outcome);
 }
@@ -276,6 +283,7 @@ static unsigned task_delete(struct plain *k, uint32_t a)
         lower_behind(k, a, h);
     }
     memset(t, 0, sizeof *t);
+    want_nothing(k, a);
     k->work[a] = 0;
     k->marked &= ~(UINT32_C(1) << a);
     return NTK_DONE;
@@ -636,11 +644,123 @@ static unsigned mutex_abort(struct plain *k, uint32_t a)
     return abort_first(k, PLAIN_MUTEX + a);
 }
 
-static inline unsigned serve(struct plain *k, uint8_t kind, uint32_t a, uint32_t b, uint32_t c)
+static unsigned group_create(struct plain *k, uint32_t a, uint32_t b)
+{
+    if (a >= PLAIN_GROUPS)
+        return NTK_BEYOND_RANGE;
+    if (k->group[a].used)
+        return NTK_IN_USE;
+    k->group[a].used = 1;
+    k->group[a].flags = b;
+    return NTK_DONE;
+}
+
+static unsigned group_delete(struct plain *k, uint32_t a, uint32_t b)
+{
+    unsigned head = PLAIN_GROUP + a, answer;
+
+    if (a >= PLAIN_GROUPS)
+        return NTK_BEYOND_RANGE;
+    if (!k->group[a].used)
+        return NTK_NOT_IN_USE;
+    answer = delete_answer(k, head, b);
+    if (answer != NTK_DONE)
+        return answer;
+    while (k->next[head] != head)
+        end_wait(k, k->next[head], NTK_DELETED);
+    k->group[a].used = 0;
+    k->group[a].flags = 0;
+    return NTK_DONE;
+}
+
+/* The flags of the mask that are as the test wants them: the second bit of a test wants them clear, the first is for any of them. */
+static inline uint32_t right_flags(uint32_t flags, uint32_t mask, uint32_t test)
+{
+    return (flags ^ -(test >> 1)) & mask;
+}
+
+static inline int is_met(uint32_t right, uint32_t mask, uint32_t test)
+{
+    return test & 1 ? right != 0 : right == mask;
+}
+
+static unsigned group_wait(struct plain *k, uint32_t a, uint32_t b, uint32_t c, uint32_t mask, uint32_t test, uint32_t consume)
+{
+    unsigned i = k->running;
+    struct plain_wanted *w;
+    uint32_t right;
+
+    if (i == PLAIN_NONE)
+        return NTK_NONE_RUNNING;
+    if (a >= PLAIN_GROUPS)
+        return NTK_BEYOND_RANGE;
+    if (!k->group[a].used)
+        return NTK_NOT_IN_USE;
+    if (b > 1 || mask == 0 || test > 3 || consume > 1)
+        return NTK_BAD_VALUE;
+    right = right_flags(k->group[a].flags, mask, test);
+    if (is_met(right, mask, test)) {
+        if (consume)
+            k->group[a].flags ^= right;
+        k->task[i].outcome = NTK_GIVEN;
+        return NTK_DONE;
+    }
+    if (!b)
+        return NTK_NOTHING_TO_TAKE;
+    if (k->depth > 0)
+        return NTK_WHILE_LOCKED;
+    w = &k->wanted[i];
+    w->mask = mask;
+    w->test = (uint16_t)test;
+    w->consume = (uint16_t)consume;
+    block(k, i, PLAIN_WAITS_FLAGS, a, PLAIN_GROUP + a, c);
+    return NTK_BLOCKS;
+}
+
+/* Waiters are tested against the flags as the post leaves them; what they consume is turned over afterwards, each flag once. */
+static unsigned group_post(struct plain *k, uint32_t a, uint32_t mask, uint32_t on)
+{
+    unsigned head = PLAIN_GROUP + a, i, after;
+    uint32_t flags, consumed = 0;
+
+    if (a >= PLAIN_GROUPS)
+        return NTK_BEYOND_RANGE;
+    if (!k->group[a].used)
+        return NTK_NOT_IN_USE;
+    if (mask == 0 || on > 1)
+        return NTK_BAD_VALUE;
+    flags = on ? k->group[a].flags | mask : k->group[a].flags & ~mask;
+    for (i = k->next[head]; i != head; i = after) {
+        const struct plain_wanted *w = &k->wanted[i];
+        uint32_t right = right_flags(flags, w->mask, w->test);
+
+        after = k->next[i];
+        if (!is_met(right, w->mask, w->test))
+            continue;
+        if (w->consume)
+            consumed |= right;
+        leave(k, i);
+        want_nothing(k, i);
+        become_plain(k, i, NTK_GIVEN);
+    }
+    k->group[a].flags = flags ^ consumed;
+    return NTK_DONE;
+}
+
+static unsigned group_abort(struct plain *k, uint32_t a)
+{
+    if (a >= PLAIN_GROUPS)
+        return NTK_BEYOND_RANGE;
+    if (!k->group[a].used)
+        return NTK_NOT_IN_USE;
+    return abort_first(k, PLAIN_GROUP + a);
+}
+
+static inline unsigned serve(struct plain *k, uint8_t kind, uint32_t a, uint32_t b, uint32_t c, uint32_t d, uint32_t e, uint32_t f)
 {
     if (kind & NTK_INTERRUPT) {
         kind &= (uint8_t)~NTK_INTERRUPT;
-        if (kind != NTK_TICK && kind != NTK_SEMAPHORE_POST)
+        if (kind != NTK_TICK && kind != NTK_SEMAPHORE_POST && kind != NTK_GROUP_POST)
             return NTK_BY_INTERRUPT;
     }
     switch (kind) {
@@ -686,16 +806,26 @@ static inline unsigned serve(struct plain *k, uint8_t kind, uint32_t a, uint32_t
         return mutex_post(k, a);
     case NTK_MUTEX_ABORT:
         return mutex_abort(k, a);
+    case NTK_GROUP_CREATE:
+        return group_create(k, a, b);
+    case NTK_GROUP_DELETE:
+        return group_delete(k, a, b);
+    case NTK_GROUP_WAIT:
+        return group_wait(k, a, b, c, d, e, f);
+    case NTK_GROUP_POST:
+        return group_post(k, a, b, c);
+    case NTK_GROUP_ABORT:
+        return group_abort(k, a);
     default:
         return NTK_BEYOND_RANGE;
     }
 }
 
-struct plain_outcome plain_step(struct plain *k, uint8_t kind, uint32_t a, uint32_t b, uint32_t c)
+struct plain_outcome plain_step(struct plain *k, uint8_t kind, uint32_t a, uint32_t b, uint32_t c, uint32_t d, uint32_t e, uint32_t f)
 {
     struct plain_outcome o;
 
-    o.answer = serve(k, kind, a, b, c);
+    o.answer = serve(k, kind, a, b, c, d, e, f);
     if (k->depth == 0)
         k->running = k->next[PLAIN_ABLE];
     o.runs = k->running == PLAIN_NONE ? 0 : k->running + 1u;
@@ -748,8 +878,9 @@ static inline uint64_t eight(const void *at)
 int plain_check(const struct plain *k)
 {
     enum { BASE = 8, STATE = 16, OBJECT = 24, OUTCOME = 48, SUSPENDED = 56 }; /* the first bits of these fields */
-    const uint64_t too_high = UINT64_C(0xFE) | UINT64_C(0xC0) << BASE | UINT64_C(0xFC) << STATE | UINT64_C(0xF0) << OBJECT |
+    const uint64_t too_high = UINT64_C(0xFE) | UINT64_C(0xC0) << BASE | UINT64_C(0xF8) << STATE | UINT64_C(0xF0) << OBJECT |
                               UINT64_C(0xFC) << OUTCOME;
+    const uint64_t short_of = UINT64_C(1) << BASE | UINT64_C(3) << STATE; /* of 64 and of 8 */
     const uint64_t not_able = UINT64_C(0xFF) << SUSPENDED | UINT64_C(0xFF) << STATE;
     uint8_t place[PLAIN_TASKS], fresh[PLAIN_TASKS];
     uint32_t held = 0, held_twice = 0, owned = 0, through = 0;
@@ -759,16 +890,21 @@ int plain_check(const struct plain *k)
     /* Each task by itself, and where it belongs. */
     for (i = 0; i < PLAIN_TASKS; i++) {
         const struct plain_task *t = &k->task[i];
-        uint64_t word = eight(t);
+        uint64_t word = eight(t), wanted = eight(&k->wanted[i]);
         unsigned marked = k->marked >> i & 1, at = i;
 
         fresh[i] = t->base;
         if (!t->used) {
-            wrong |= word | eight(&t->quantum);
+            wrong |= word | eight(&t->quantum) | wanted;
             bad |= marked;
         } else {
-            unsigned waits = word >> (STATE + 1) & 1;
-            wrong |= (word & too_high) | ((word + (UINT64_C(1) << BASE)) & UINT64_C(0xC0) << BASE); /* base 63 too */
+            const struct plain_wanted *w = &k->wanted[i];
+            unsigned waits = t->state >= PLAIN_WAITS_SEMAPHORE;
+            wrong |= (word | (word + short_of)) & too_high; /* base 63 and state 5 too */
+            if (t->state == PLAIN_WAITS_FLAGS)
+                bad |= (w->mask == 0) | (w->test > 3) | (w->consume > 1) | (t->object >= PLAIN_GROUPS);
+            else
+                wrong |= wanted;
             bad |= word >= UINT64_C(251) << SUSPENDED;
             bad |= t->left > t->quantum;
             wrong |= (t->object | (marked ^ t->state)) & (waits - 1); /* a plain task has no mark, a delayed one has one */
@@ -777,7 +913,7 @@ int plain_check(const struct plain *k)
             held_twice |= held & t->held;
             held |= t->held;
             at = word & not_able ? i : PLAIN_ABLE;
-            at = waits ? 16u * t->state + t->object : at; /* its semaphore's head, or its mutex's */
+            at = waits ? 16u * t->state + t->object : at; /* its object's head */
         }
         place[i] = (uint8_t)at;
         if (at != i)
@@ -802,12 +938,16 @@ int plain_check(const struct plain *k)
             bad |= (m->used > 1) | m->nesting | (h ^ (m->used ? PLAIN_NONE : 0));
         }
     }
+    for (i = 0; i < PLAIN_GROUPS; i++) {
+        const struct plain_group *g = &k->group[i];
+        bad |= (g->used & ~UINT32_C(1)) | (g->flags & (g->used - 1));
+    }
     if (wrong | bad | held_twice | (held ^ owned))
         return 0;
 
     /* Queues: the able tasks, then eight objects at a time, of which only those with waiters are looked at. A walk comes back to its
      * head, since each step is tested backwards. */
-    for (part = 0; part <= 4; part++) {
+    for (part = 0; part <= 5; part++) {
         unsigned heads = part == 0 ? PLAIN_ABLE : PLAIN_SEMAPHORE + 8 * (part - 1);
         uint64_t own = UINT64_C(0x0706050403020100) + UINT64_C(0x0101010101010101) * heads;
         uint64_t next = part == 0 ? 0xFF : eight(k->next + heads) ^ own, prev = part == 0 ? 0 : eight(k->prev + heads) ^ own;
@@ -830,14 +970,16 @@ int plain_check(const struct plain *k)
                 const struct plain_semaphore *s = &k->semaphore[head - PLAIN_SEMAPHORE];
                 if (!s->used || s->count != 0)
                     return 0;
-            } else if (head < PLAIN_ABLE) {
+            } else if (head < PLAIN_GROUP) {
                 unsigned h = k->mutex[head - PLAIN_MUTEX].holder, first = k->next[head];
                 if (!(owned >> (head - PLAIN_MUTEX) & 1))
                     return 0;
                 if (k->work[first] < fresh[h])
                     fresh[h] = k->work[first];
-                if (place[h] >= PLAIN_MUTEX && place[h] < PLAIN_ABLE)
+                if (place[h] >= PLAIN_MUTEX && place[h] < PLAIN_GROUP)
                     through |= UINT32_C(1) << h;
+            } else if (head < PLAIN_ABLE && !k->group[head - PLAIN_GROUP].used) {
+                return 0;
             }
             next &= ~(UINT64_C(0xFF) << 8 * at);
             prev &= ~(UINT64_C(0xFF) << 8 * at);

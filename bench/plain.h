@@ -5,13 +5,13 @@
 
 #include <stdint.h>
 
-enum { PLAIN_TASKS = 32, PLAIN_OBJECTS = 16 };
+enum { PLAIN_TASKS = 32, PLAIN_OBJECTS = 16, PLAIN_GROUPS = 8 };
 
 /* Each queue is a ring of nodes through a node of its own: node i is task i, then come the heads of the queues. A task in no queue
  * is a ring by itself. The head of the able queue stands for "no task" as well: it is what an empty able queue has first. */
-enum { PLAIN_SEMAPHORE = 32, PLAIN_MUTEX = 48, PLAIN_ABLE = 64, PLAIN_NONE = PLAIN_ABLE, PLAIN_NODES = 65 };
+enum { PLAIN_SEMAPHORE = 32, PLAIN_MUTEX = 48, PLAIN_GROUP = 64, PLAIN_ABLE = 72, PLAIN_NONE = PLAIN_ABLE, PLAIN_NODES = 73 };
 
-enum plain_state { PLAIN_PLAIN, PLAIN_DELAYED, PLAIN_WAITS_SEMAPHORE, PLAIN_WAITS_MUTEX };
+enum plain_state { PLAIN_PLAIN, PLAIN_DELAYED, PLAIN_WAITS_SEMAPHORE, PLAIN_WAITS_MUTEX, PLAIN_WAITS_FLAGS };
 
 /* plain_check tests the first eight bytes together: it knows their places. */
 struct plain_task {
@@ -27,6 +27,13 @@ struct plain_task {
     uint32_t mark; /* due mark; 0 where its bit in `marked` is not set */
 };
 
+/* What a task wants of the flags of its group; all 0 where it waits for none. plain_check tests it as eight bytes: no padding. */
+struct plain_wanted {
+    uint32_t mask;
+    uint16_t test; /* enum ntk_test */
+    uint16_t consume;
+};
+
 struct plain_semaphore {
     uint32_t used;
     uint32_t count;
@@ -38,12 +45,19 @@ struct plain_mutex {
     uint8_t nesting;
 };
 
+struct plain_group {
+    uint32_t used;
+    uint32_t flags;
+};
+
 struct plain {
     uint32_t tick;
     uint32_t marked; /* the tasks with a due mark, a bit each */
     struct plain_task task[PLAIN_TASKS];
     struct plain_semaphore semaphore[PLAIN_OBJECTS];
     struct plain_mutex mutex[PLAIN_OBJECTS];
+    struct plain_group group[PLAIN_GROUPS];
+    struct plain_wanted wanted[PLAIN_TASKS];
     uint8_t next[PLAIN_NODES];
     uint8_t prev[PLAIN_NODES];
     uint8_t work[PLAIN_NODES]; /* working priorities; 0 for heads and free tasks */
@@ -61,7 +75,7 @@ struct plain_outcome {
 void plain_fresh(struct plain *k);
 
 /* One call, kinds and numbers as in nonthachak.h. The table must be sound. */
-struct plain_outcome plain_step(struct plain *k, uint8_t kind, uint32_t a, uint32_t b, uint32_t c);
+struct plain_outcome plain_step(struct plain *k, uint8_t kind, uint32_t a, uint32_t b, uint32_t c, uint32_t d, uint32_t e, uint32_t f);
 
 /* 1 where the table meets every standing rule, else 0; for any contents. */
 int plain_check(const struct plain *k);

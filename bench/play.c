@@ -23,7 +23,12 @@ void make_fresh(struct table *t)
 
 void must(struct plain *k, unsigned kind, uint32_t a, uint32_t b, uint32_t c)
 {
-    struct plain_outcome o = plain_step(k, (uint8_t)kind, a, b, c);
+    must_call(k, (struct call){(uint8_t)kind, {a, b, c}});
+}
+
+void must_call(struct plain *k, struct call c)
+{
+    struct plain_outcome o = make_call(k, &c);
 
     if (o.answer != NTK_DONE && o.answer != NTK_BLOCKS)
         failed("a table could not be built");
@@ -39,7 +44,7 @@ void make_case(struct one_case *one, const char *name, const struct plain *k, st
 
 static inline struct ntk_outcome plain_call(struct plain *k, const struct call *c)
 {
-    struct plain_outcome o = plain_step(k, c->kind, c->a, c->b, c->c);
+    struct plain_outcome o = make_call(k, c);
     struct ntk_outcome outcome = {o.answer, o.runs};
 
     return outcome;
@@ -54,12 +59,12 @@ static inline struct ntk_outcome checked_call(struct plain *k, const struct call
 
 static inline struct ntk_outcome serve_call(uint8_t *image, const struct call *c)
 {
-    return ntk_serve(c->kind, c->a, c->b, c->c, image, NTK_IMAGE_SIZE);
+    return ntk_serve(c->kind, c->n[0], c->n[1], c->n[2], c->n[3], c->n[4], c->n[5], image, NTK_IMAGE_SIZE);
 }
 
 static inline struct ntk_outcome step_call(uint8_t *image, const struct call *c)
 {
-    return ntk_step(c->kind, c->a, c->b, c->c, image, NTK_IMAGE_SIZE);
+    return ntk_step(c->kind, c->n[0], c->n[1], c->n[2], c->n[3], c->n[4], c->n[5], image, NTK_IMAGE_SIZE);
 }
 
 static inline uint64_t folded(uint64_t sum, struct ntk_outcome o)
@@ -117,6 +122,17 @@ uint64_t play_copies(enum variant v, const struct call *c, struct table *copies)
     return sum;
 }
 
+static void tell_difference(const struct call *c, const char *name, size_t number, unsigned v, const struct ntk_outcome o[VARIANTS])
+{
+    unsigned i;
+
+    fprintf(stderr, "bench: %s, call %lu, kind %02X (", name, (unsigned long)number, c->kind);
+    for (i = 0; i < NUMBERS; i++)
+        fprintf(stderr, "%lu%s", (unsigned long)c->n[i], i + 1 < NUMBERS ? ", " : "): ");
+    fprintf(stderr, "%s answers %lu and runs %lu, C answers %lu and runs %lu\n", variant_names[v], (unsigned long)o[v].answer,
+            (unsigned long)o[v].runs, (unsigned long)o[PLAIN].answer, (unsigned long)o[PLAIN].runs);
+}
+
 void compare(const struct call *c, struct table tables[VARIANTS], const char *name, size_t number)
 {
     struct ntk_outcome o[VARIANTS];
@@ -133,10 +149,7 @@ void compare(const struct call *c, struct table tables[VARIANTS], const char *na
             image_of(&tables[v].plain, tables[v].image);
         if (o[v].answer != o[PLAIN].answer || o[v].runs != o[PLAIN].runs ||
             (v != PLAIN && memcmp(tables[v].image, image, sizeof image) != 0)) {
-            fprintf(stderr, "bench: %s, call %lu, kind %02X (%lu, %lu, %lu): %s answers %lu and runs %lu, C answers %lu and runs %lu\n",
-                    name, (unsigned long)number, c->kind, (unsigned long)c->a, (unsigned long)c->b, (unsigned long)c->c,
-                    variant_names[v], (unsigned long)o[v].answer, (unsigned long)o[v].runs, (unsigned long)o[PLAIN].answer,
-                    (unsigned long)o[PLAIN].runs);
+            tell_difference(c, name, number, v, o);
             failed("the variants differ");
         }
     }

@@ -14,9 +14,11 @@ enum variant { PLAIN, CHECKED, SERVE, STEP, VARIANTS };
 
 extern const char *const variant_names[VARIANTS];
 
+enum { NUMBERS = 6 };
+
 struct call {
     uint8_t kind;
-    uint32_t a, b, c;
+    uint32_t n[NUMBERS];
 };
 
 /* A table as the two kinds of kernel have it. */
@@ -39,8 +41,15 @@ _Noreturn void failed(const char *what);
 
 void make_fresh(struct table *t);
 
-/* A call by the plain kernel that has to be done or to block. */
+/* A call by the plain kernel. */
+static inline struct plain_outcome make_call(struct plain *k, const struct call *c)
+{
+    return plain_step(k, c->kind, c->n[0], c->n[1], c->n[2], c->n[3], c->n[4], c->n[5]);
+}
+
+/* The same, where it has to be done or to block; the other numbers are 0. */
 void must(struct plain *k, unsigned kind, uint32_t a, uint32_t b, uint32_t c);
+void must_call(struct plain *k, struct call c);
 
 void make_case(struct one_case *one, const char *name, const struct plain *k, struct call c);
 

@@ -3,9 +3,10 @@
 
 #include <string.h>
 
-static struct sequence kiosk = {.name = "kiosk"}, chains = {.name = "chains"}, ticks = {.name = "ticks"}, mixed = {.name = "random"};
+static struct sequence kiosk = {.name = "kiosk"}, chains = {.name = "chains"}, ticks = {.name = "ticks"}, mixed = {.name = "random"},
+                       flags = {.name = "flags"};
 
-struct sequence *const sequences[SEQUENCES] = {&kiosk, &chains, &ticks, &mixed};
+struct sequence *const sequences[SEQUENCES] = {&kiosk, &chains, &ticks, &mixed, &flags};
 
 static struct plain recorder;
 
@@ -25,29 +26,27 @@ static unsigned chain_from(const struct plain *k, unsigned i)
     return length;
 }
 
-static unsigned record(struct sequence *s, unsigned kind, uint32_t a, uint32_t b, uint32_t c)
+static void record_call(struct sequence *s, struct call call)
 {
-    struct call *call = &s->calls[s->length];
     unsigned caller = recorder.running;
     struct plain_outcome o;
 
     if (s->length == CALLS)
-        return 0;
-    call->kind = (uint8_t)kind;
-    call->a = a;
-    call->b = b;
-    call->c = c;
-    s->length++;
-    o = plain_step(&recorder, call->kind, a, b, c);
-    if (kind == NTK_MUTEX_WAIT && o.answer == NTK_BLOCKS && chain_from(&recorder, caller) > s->deepest)
+        return;
+    s->calls[s->length++] = call;
+    o = make_call(&recorder, &call);
+    if (call.kind == NTK_MUTEX_WAIT && o.answer == NTK_BLOCKS && chain_from(&recorder, caller) > s->deepest)
         s->deepest = chain_from(&recorder, caller);
-    return o.answer;
+}
+
+static void record(struct sequence *s, unsigned kind, uint32_t a, uint32_t b, uint32_t c)
+{
+    record_call(s, (struct call){(uint8_t)kind, {a, b, c}});
 }
 
 /* What a task does, over and over. A step with `given` is left out where the last wait was not given. */
 struct step {
-    uint8_t kind;
-    uint32_t a, b, c;
+    struct call call;
     int given;
 };
 
@@ -58,15 +57,17 @@ struct worker {
 
 static struct worker workers[NTK_TASKS];
 
-static void add_step(unsigned task, unsigned kind, uint32_t a, uint32_t b, uint32_t c, int given)
+static void add_call(unsigned task, struct call call, int given)
 {
     struct step *s = &workers[task].steps[workers[task].length++];
 
-    s->kind = (uint8_t)kind;
-    s->a = a;
-    s->b = b;
-    s->c = c;
+    s->call = call;
     s->given = given;
+}
+
+static void add_step(unsigned task, unsigned kind, uint32_t a, uint32_t b, uint32_t c, int given)
+{
+    add_call(task, (struct call){(uint8_t)kind, {a, b, c}}, given);
 }
 
 /* The running task does its next step. */
@@ -80,7 +81,7 @@ static void work(struct sequence *s)
         next = &w->steps[w->at];
         w->at = (w->at + 1) % w->length;
     } while (next->given && recorder.task[i].outcome != NTK_GIVEN);
-    record(s, next->kind, next->a, next->b, next->c);
+    record_call(s, next->call);
 }
 
 static void begin(struct sequence *s)
@@ -278,37 +279,38 @@ static uint8_t some_kind(void)
 /* A call with numbers that are mostly valid. */
 static struct call some_call(void)
 {
-    struct call call = {some_kind(), 0, 0, 0};
+    struct call call = {some_kind(), {0}};
 
-    call.a = below(NTK_TASKS);
-    call.b = below(63);
+    call.n[0] = below(NTK_TASKS);
+    call.n[1] = below(63);
     switch (call.kind) {
     case NTK_TASK_CREATE:
-        call.c = below(4);
+        call.n[2] = below(4);
         break;
     case NTK_DELAY:
-        call.a = 1 + below(12);
+        call.n[0] = 1 + below(12);
         break;
     case NTK_SEMAPHORE_CREATE:
-        call.a = below(8);
-        call.b = below(3);
+        call.n[0] = below(8);
+        call.n[1] = below(3);
         break;
     case NTK_SEMAPHORE_WAIT:
     case NTK_MUTEX_WAIT:
-        call.a = below(12);
-        call.b = below(8) != 0;
-        call.c = below(3) != 0 ? 1 + below(20) : 0;
+        call.n[0] = below(12);
+        call.n[1] = below(8) != 0;
+        call.n[2] = below(3) != 0 ? 1 + below(20) : 0;
         break;
     default:
         if ((call.kind & ~NTK_INTERRUPT) >= NTK_SEMAPHORE_CREATE) {
-            call.a = below(12);
-            call.b = below(2);
+            call.n[0] = below(12);
+            call.n[1] = below(2);
         }
     }
     return call;
 }
 
-/* Random calls of every kind from a fixed seed, on a well filled table. One refused call of twenty stays, the rest are valid. */
+/* Random calls of every kind but those of flag groups, from a fixed seed, on a well filled table. One refused call of twenty stays, the
+ * rest are valid. */
 static void record_mixed(void)
 {
     struct sequence *s = &mixed;
@@ -317,11 +319,77 @@ static void record_mixed(void)
     while (s->length < CALLS) {
         struct call call = some_call();
         struct plain before = recorder;
-        struct plain_outcome o = plain_step(&recorder, call.kind, call.a, call.b, call.c);
+        struct plain_outcome o = make_call(&recorder, &call);
 
         recorder = before;
         if (o.answer == NTK_DONE || o.answer == NTK_BLOCKS || below(20) == 0)
-            record(s, call.kind, call.a, call.b, call.c);
+            record_call(s, call);
+    }
+}
+
+enum { SIGNS, STAGE };                            /* groups */
+enum { CARD = 1, TIME = 2, FRAME = 4, DOOR = 8 }; /* flags of SIGNS */
+enum { GO = 1, LAMP = 2 };                        /* flags of STAGE */
+enum { VIEWERS = 16, VIEWER_COUNT = 8 };
+
+static void add_flag_wait(unsigned task, uint32_t group, uint32_t limit, uint32_t mask, enum ntk_test test, uint32_t consume)
+{
+    add_call(task, (struct call){NTK_GROUP_WAIT, {group, 1, limit, mask, test, consume}}, 0);
+}
+
+static void add_flag_steps(void)
+{
+    unsigned i;
+
+    add_flag_wait(OUTPUT, STAGE, 5, LAMP, NTK_ALL_SET, 1);
+    add_step(OUTPUT, NTK_DELAY, 2, 0, 0, 0);
+    add_flag_wait(READER, SIGNS, 0, CARD | TIME, NTK_ALL_SET, 1);
+    add_step(READER, NTK_GROUP_POST, SIGNS, FRAME, 1, 0);
+    add_step(READER, NTK_DELAY, 1, 0, 0, 0);
+    add_flag_wait(DECODER, SIGNS, 6, FRAME | DOOR, NTK_ANY_SET, 1);
+    add_step(DECODER, NTK_GROUP_POST, STAGE, GO, 1, 1);
+    add_step(DECODER, NTK_DELAY, 1, 0, 0, 0);
+    add_step(DECODER, NTK_GROUP_POST, STAGE, GO, 0, 0);
+    add_flag_wait(KEEPER, SIGNS, 9, CARD | FRAME, NTK_ALL_CLEAR, 0);
+    add_step(KEEPER, NTK_GROUP_POST, SIGNS, DOOR, 1, 1);
+    add_step(KEEPER, NTK_DELAY, 3, 0, 0, 0);
+    add_flag_wait(KEEPER, STAGE, 0, LAMP | GO, NTK_ANY_CLEAR, 0);
+    add_step(KEEPER, NTK_GROUP_POST, STAGE, LAMP, 1, 0);
+    for (i = 0; i < VIEWER_COUNT; i++) {
+        add_flag_wait(VIEWERS + i, STAGE, i % 2 ? 8 : 0, GO, NTK_ALL_SET, 0);
+        add_flag_wait(VIEWERS + i, STAGE, 0, GO, NTK_ALL_CLEAR, 0);
+    }
+}
+
+/* The kiosk with flags: the reader waits for card and clock together, the decoder for a frame or the door, the output and the
+ * housekeeper for others; eight viewers go together, and stop together. Every sixth call is an interrupt's, and others where nobody
+ * runs: of six of them three are ticks, two the clock's posts and one the card's. */
+static void record_flags(void)
+{
+    struct sequence *s = &flags;
+    unsigned i, n, interrupts = 0;
+
+    begin(s);
+    record(s, NTK_LOCK, 0, 0, 0);
+    record(s, NTK_GROUP_CREATE, SIGNS, 0, 0);
+    record(s, NTK_GROUP_CREATE, STAGE, 0, 0);
+    create_task(s, OUTPUT, 10, 0);
+    create_task(s, READER, 20, 0);
+    create_task(s, DECODER, 30, 0);
+    create_task(s, KEEPER, 40, 0);
+    for (i = 0; i < VIEWER_COUNT; i++)
+        create_task(s, VIEWERS + i, 32 + i / 4, 0);
+    record(s, NTK_UNLOCK, 0, 0, 0);
+    add_flag_steps();
+    for (n = 0; s->length < CALLS; n++) {
+        if (recorder.running != PLAIN_NONE && n % 6 != 0)
+            work(s);
+        else if (++interrupts % 3 == 1)
+            record(s, NTK_GROUP_POST | NTK_INTERRUPT, SIGNS, TIME, 1);
+        else if (interrupts % 6 == 2)
+            record(s, NTK_GROUP_POST | NTK_INTERRUPT, SIGNS, CARD, 1);
+        else
+            record(s, NTK_TICK | NTK_INTERRUPT, 0, 0, 0);
     }
 }
 
@@ -331,4 +399,5 @@ void record_sequences(void)
     record_chains();
     record_ticks();
     record_mixed();
+    record_flags();
 }

@@ -4,7 +4,7 @@
 
 #include "play.h"
 
-enum { CALLS = 20000, SEQUENCES = 4 };
+enum { CALLS = 20000, SEQUENCES = 5 };
 
 struct sequence {
     const char *name;

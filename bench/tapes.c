@@ -6,10 +6,12 @@
 #include "../include/nonthachak.h"
 #include "plain.h"
 
-/* The lengths in bytes of the numbers a, b, c in the body of a kind, or 0 for an unknown kind. */
-static int body(unsigned kind, int lengths[3])
+enum { NUMBERS = 6 };
+
+/* The lengths in bytes of the numbers a to f in the body of a kind, or 0 for an unknown kind. */
+static int body(unsigned kind, int lengths[NUMBERS])
 {
-    int a = 0, b = 0, c = 0;
+    int a = 0, b = 0, c = 0, d = 0, e = 0, f = 0;
 
     switch (kind) {
     case NTK_TASK_CREATE:
@@ -18,6 +20,7 @@ static int body(unsigned kind, int lengths[3])
     case NTK_CHANGE_PRIORITY:
     case NTK_SEMAPHORE_DELETE:
     case NTK_MUTEX_DELETE:
+    case NTK_GROUP_DELETE:
         a = 1, b = 1;
         break;
     case NTK_TASK_DELETE:
@@ -29,17 +32,25 @@ static int body(unsigned kind, int lengths[3])
     case NTK_MUTEX_CREATE:
     case NTK_MUTEX_POST:
     case NTK_MUTEX_ABORT:
+    case NTK_GROUP_ABORT:
         a = 1;
         break;
     case NTK_DELAY:
         a = 4;
         break;
     case NTK_SEMAPHORE_CREATE:
+    case NTK_GROUP_CREATE:
         a = 1, b = 4;
         break;
     case NTK_SEMAPHORE_WAIT:
     case NTK_MUTEX_WAIT:
         a = 1, b = 1, c = 4;
+        break;
+    case NTK_GROUP_WAIT:
+        a = 1, b = 1, c = 4, d = 4, e = 1, f = 1;
+        break;
+    case NTK_GROUP_POST:
+        a = 1, b = 4, c = 1;
         break;
     case NTK_YIELD:
     case NTK_LOCK:
@@ -52,6 +63,9 @@ static int body(unsigned kind, int lengths[3])
     lengths[0] = a;
     lengths[1] = b;
     lengths[2] = c;
+    lengths[3] = d;
+    lengths[4] = e;
+    lengths[5] = f;
     return 1;
 }
 
@@ -68,12 +82,25 @@ static int read_number(FILE *tape, int bytes, uint32_t *number)
     return 1;
 }
 
+/* The body of a kind; 0 where the kind is unknown or the body cut. */
+static int read_body(FILE *tape, unsigned kind, uint32_t n[NUMBERS])
+{
+    int lengths[NUMBERS], i;
+
+    if (!body(kind & 0x7F, lengths))
+        return 0;
+    for (i = 0; i < NUMBERS; i++)
+        if (!read_number(tape, lengths[i], &n[i]))
+            return 0;
+    return 1;
+}
+
 int main(int argc, char **argv)
 {
     static struct plain k;
     FILE *tape = argc > 1 ? fopen(argv[1], "rb") : stdin;
-    int kind, lengths[3], status = 0;
-    uint32_t numbers[3];
+    int kind, status = 0;
+    uint32_t n[NUMBERS];
 
     if (tape == NULL) {
         perror(argv[1]);
@@ -82,8 +109,7 @@ int main(int argc, char **argv)
     plain_fresh(&k);
     while ((kind = getc(tape)) != EOF) {
         struct plain_outcome o;
-        if (!body((unsigned)kind & 0x7F, lengths) || !read_number(tape, lengths[0], &numbers[0]) ||
-            !read_number(tape, lengths[1], &numbers[1]) || !read_number(tape, lengths[2], &numbers[2])) {
+        if (!read_body(tape, (unsigned)kind, n)) {
             puts("bad");
             break;
         }
@@ -91,7 +117,7 @@ int main(int argc, char **argv)
             fputs("tapes: the table is not sound\n", stderr);
             status = 3;
         }
-        o = plain_step(&k, (uint8_t)kind, numbers[0], numbers[1], numbers[2]);
+        o = plain_step(&k, (uint8_t)kind, n[0], n[1], n[2], n[3], n[4], n[5]);
         if (o.runs == 0)
             printf("%u -\n", (unsigned)o.answer);
         else

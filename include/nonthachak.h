@@ -16,12 +16,13 @@ extern "C" {
 #endif
 
 /* How long an image is. Zeroed memory is the fresh table. */
-#define NTK_IMAGE_SIZE 1702
+#define NTK_IMAGE_SIZE 2190
 
 #define NTK_TASKS 32
 #define NTK_SEMAPHORES 16
 #define NTK_MUTEXES 16
-#define NTK_QUEUES 33
+#define NTK_GROUPS 8 /* of 32 flags each */
+#define NTK_QUEUES 41
 
 /* Limits, each the greatest that is taken. */
 #define NTK_LAST_PRIORITY 62       /* base and working priority; 0 is the most urgent */
@@ -29,7 +30,7 @@ extern "C" {
 #define NTK_MOST_QUANTUM 65535
 #define NTK_MOST_COUNT 4294967295u /* of a semaphore */
 
-/* Kinds of calls, with the numbers a, b, c that each looks at, and who may make it:
+/* Kinds of calls, with the numbers a to f that each looks at, and who may make it:
  * T a running task, I an interrupt (kind | NTK_INTERRUPT), S start-up code, with none running. */
 enum ntk_kind {
     NTK_TASK_CREATE = 0x01,      /* a task, b base priority 0..62, c quantum 0..65535   T S   */
@@ -53,8 +54,17 @@ enum ntk_kind {
     NTK_MUTEX_WAIT = 0x22,       /* a mutex, b block 0 or 1, c limit, 0 for ever        T     */
     NTK_MUTEX_POST = 0x23,       /* a mutex                                             T     */
     NTK_MUTEX_ABORT = 0x24,      /* a mutex                                             T S   */
+    NTK_GROUP_CREATE = 0x30,     /* a group, b flags                                    T S   */
+    NTK_GROUP_DELETE = 0x31,     /* a group, b force 0 or 1                             T S   */
+    NTK_GROUP_WAIT = 0x32,       /* a group, b block 0 or 1, c limit, 0 for ever,       T
+                                  * d mask, not 0, e enum ntk_test, f consume 0 or 1          */
+    NTK_GROUP_POST = 0x33,       /* a group, b mask, not 0, c 1 sets, 0 clears          T I S */
+    NTK_GROUP_ABORT = 0x34,      /* a group                                             T S   */
     NTK_INTERRUPT = 0x80         /* added to a kind: an interrupt makes the call              */
 };
+
+/* The tests of a wait for flags: what it asks of the flags of its mask. A wait that consumes turns over those that are as it asks. */
+enum ntk_test { NTK_ALL_SET = 0, NTK_ANY_SET = 1, NTK_ALL_CLEAR = 2, NTK_ANY_CLEAR = 3 };
 
 /* Answers. NTK_DONE and NTK_BLOCKS alone change the image. */
 enum ntk_answer {
@@ -62,8 +72,8 @@ enum ntk_answer {
     NTK_BEYOND_RANGE = 1,    /* a number beyond its range, or an unknown kind */
     NTK_NOT_IN_USE = 2,      /* the number is not in use */
     NTK_IN_USE = 3,          /* create: the number is in use */
-    NTK_BAD_VALUE = 4,       /* base above 62, a yes/no above 1, a delay of 0, a quantum above 65535 */
-    NTK_BY_INTERRUPT = 5,    /* not a tick or a semaphore post */
+    NTK_BAD_VALUE = 4,       /* base above 62, a yes/no above 1, a delay of 0, a quantum above 65535, a mask of 0, a fifth test */
+    NTK_BY_INTERRUPT = 5,    /* not a tick, a semaphore post or a group post */
     NTK_NONE_RUNNING = 6,    /* the call wants a running task */
     NTK_WHILE_LOCKED = 7,    /* not while the scheduler is locked */
     NTK_NOTHING_TO_TAKE = 8, /* a non-blocking wait */
@@ -87,11 +97,13 @@ struct ntk_outcome {
 
 /* One call on the image of `length` bytes at `image`. Any arguments are taken; a refused call leaves every byte as it came.
  * Numbers that the kind does not use are not looked at. Not reentrant on one image: call it with interrupts shut. */
-struct ntk_outcome ntk_step(uint8_t kind, uint32_t a, uint32_t b, uint32_t c, uint8_t *image, size_t length);
+struct ntk_outcome ntk_step(uint8_t kind, uint32_t a, uint32_t b, uint32_t c, uint32_t d, uint32_t e, uint32_t f, uint8_t *image,
+                            size_t length);
 
 /* The same without the test of the image, and quicker: for an image that was zeroed and that only these two functions have changed
  * since. There it gives what ntk_step gives. On an image that breaks a standing rule it gives no sensible table. */
-struct ntk_outcome ntk_serve(uint8_t kind, uint32_t a, uint32_t b, uint32_t c, uint8_t *image, size_t length);
+struct ntk_outcome ntk_serve(uint8_t kind, uint32_t a, uint32_t b, uint32_t c, uint32_t d, uint32_t e, uint32_t f, uint8_t *image,
+                             size_t length);
 
 /* Fields, for ntk_read: what each shows, and which numbers it has. The first digit says whose it is, as with the kinds of calls.
  * Where "none" may stand (a holder, the running task, a slot), a task is its number plus 1, and 0 is none. */
@@ -107,11 +119,16 @@ enum ntk_field {
     NTK_FIELD_TASK_MARKED = 0x08,      /* 1 if it has a due mark, else 0                   task 0..31      */
     NTK_FIELD_TASK_DUE = 0x09,         /* its due mark; 0 where it has none                task 0..31      */
     NTK_FIELD_TASK_OUTCOME = 0x0A,     /* enum ntk_wait                                    task 0..31      */
+    NTK_FIELD_TASK_MASK = 0x0B,        /* the flags it waits for; 0 where for none         task 0..31      */
+    NTK_FIELD_TASK_TEST = 0x0C,        /* enum ntk_test; 0 where it waits for no flags     task 0..31      */
+    NTK_FIELD_TASK_CONSUME = 0x0D,     /* 1 if it consumes the flags it waits for, else 0  task 0..31      */
     NTK_FIELD_SEMAPHORE_IN_USE = 0x10, /* 1 in use, 0 free                                 semaphore 0..15 */
     NTK_FIELD_SEMAPHORE_COUNT = 0x11,  /* count                                            semaphore 0..15 */
     NTK_FIELD_MUTEX_IN_USE = 0x20,     /* 1 in use, 0 free                                 mutex 0..15     */
     NTK_FIELD_MUTEX_HOLDER = 0x21,     /* holder plus 1; 0 for none                        mutex 0..15     */
     NTK_FIELD_MUTEX_NESTING = 0x22,    /* how many times over it is held                   mutex 0..15     */
+    NTK_FIELD_GROUP_IN_USE = 0x30,     /* 1 in use, 0 free                                 group 0..7      */
+    NTK_FIELD_GROUP_FLAGS = 0x31,      /* its flags, flag n in bit n                       group 0..7      */
     NTK_FIELD_QUEUE_SLOT = 0xE0,       /* task plus 1; 0 for none                          NTK_SLOT(q, j)  */
     NTK_FIELD_TICK = 0xF0,             /* tick counter                                     0               */
     NTK_FIELD_DEPTH = 0xF1,            /* lock depth                                       0               */
@@ -119,14 +136,15 @@ enum ntk_field {
 };
 
 /* The states of a task. */
-enum ntk_state { NTK_PLAIN = 0, NTK_DELAYED = 1, NTK_WAITS_SEMAPHORE = 2, NTK_WAITS_MUTEX = 3 };
+enum ntk_state { NTK_PLAIN = 0, NTK_DELAYED = 1, NTK_WAITS_SEMAPHORE = 2, NTK_WAITS_MUTEX = 3, NTK_WAITS_FLAGS = 4 };
 
-/* Queues: the able tasks, and the waiters of each semaphore and of each mutex, the most urgent first. */
+/* Queues: the able tasks, and the waiters of each semaphore, of each mutex and of each group, the most urgent first. */
 #define NTK_ABLE_QUEUE 0
 #define NTK_SEMAPHORE_QUEUE(s) (1 + (s))
 #define NTK_MUTEX_QUEUE(m) (17 + (m))
+#define NTK_GROUP_QUEUE(g) (33 + (g))
 
-/* The number of slot j, 0..31, of queue q, 0..32, where slot 0 is the front. */
+/* The number of slot j, 0..31, of queue q, 0..40, where slot 0 is the front. */
 #define NTK_SLOT(q, j) (NTK_TASKS * (q) + (j))
 
 /* What no field shows: a field has 32 bits. */
@@ -163,6 +181,12 @@ static inline uint64_t ntk_slot_of(const uint8_t *image, uint32_t q, uint32_t j)
     if (q >= NTK_QUEUES || j >= NTK_TASKS)
         return NTK_NO_FIELD;
     return ntk_read(NTK_FIELD_QUEUE_SLOT, NTK_SLOT(q, j), image, NTK_IMAGE_SIZE);
+}
+
+/* The flags of a group, flag n in bit n; 0 where it is not in use, and NTK_NO_FIELD for a number that is no group's. */
+static inline uint64_t ntk_flags_of(const uint8_t *image, uint32_t group)
+{
+    return ntk_read(NTK_FIELD_GROUP_FLAGS, group, image, NTK_IMAGE_SIZE);
 }
 
 /* The running task, plus 1; 0 for none. */

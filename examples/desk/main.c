@@ -6,15 +6,27 @@
 
 static uint8_t table[NTK_IMAGE_SIZE]; /* zeroed: the fresh table */
 
-static uint32_t call(const char *what, uint8_t kind, uint32_t a, uint32_t b, uint32_t c)
+static void tell(const char *what, struct ntk_outcome o)
 {
-    struct ntk_outcome o = ntk_step(kind, a, b, c, table, sizeof table);
     printf("%-34s answer %2u, ", what, (unsigned)o.answer);
     if (o.runs == 0)
         printf("none runs\n");
     else
         printf("task %u runs\n", (unsigned)(o.runs - 1));
-    return o.answer;
+}
+
+/* A call of a kind that looks at three numbers at most: all but the wait for flags. */
+static void call(const char *what, uint8_t kind, uint32_t a, uint32_t b, uint32_t c)
+{
+    tell(what, ntk_step(kind, a, b, c, 0, 0, 0, table, sizeof table));
+}
+
+static void make_fresh(void)
+{
+    unsigned i;
+
+    for (i = 0; i < sizeof table; i++)
+        table[i] = 0;
 }
 
 /* The case P1 of the bench. */
@@ -35,11 +47,9 @@ static void first_case(void)
 static void two_mutexes(void)
 {
     enum { READER = 8, DECODER = 9, OUTPUT = 10, KEEPER = 11, FRAMES = 4, CLOCK = 5 };
-    unsigned i;
 
     puts("the kiosk's loop:");
-    for (i = 0; i < sizeof table; i++)
-        table[i] = 0;
+    make_fresh();
     call("create the decoder, base 30", NTK_TASK_CREATE, DECODER, 30, 0);
     call("create the mutex of the frames", NTK_MUTEX_CREATE, FRAMES, 0, 0);
     call("create the mutex of the clock", NTK_MUTEX_CREATE, CLOCK, 0, 0);
@@ -61,9 +71,39 @@ static void two_mutexes(void)
     printf("  of a number that is no task's, 32 or 4294967295: %u, %u\n", (unsigned)ntk_wait_of(table, NTK_TASKS), (unsigned)ntk_wait_of(table, 4294967295u));
 }
 
+enum { SIGNS = 2, CARD = 1, CLOCK = 2 }; /* a group, and the masks of its flags 0 and 1 */
+
+static void reader_waits(void)
+{
+    tell("reader waits for card and clock", ntk_step(NTK_GROUP_WAIT, SIGNS, 1, 0, CARD | CLOCK, NTK_ALL_SET, 1, table, sizeof table));
+}
+
+static void interrupt_posts(const char *what, uint32_t flag)
+{
+    call(what, NTK_GROUP_POST | NTK_INTERRUPT, SIGNS, flag, 1);
+    printf("  the flags are %u\n", (unsigned)ntk_flags_of(table, SIGNS));
+}
+
+/* The reader wants card and clock together: it waits until both flags are set, and consumes them. They are posted by an interrupt each, in
+ * either order. */
+static void card_and_clock(void)
+{
+    puts("card and clock:");
+    make_fresh();
+    call("create the group, no flag set", NTK_GROUP_CREATE, SIGNS, 0, 0);
+    call("create the reader, base 20", NTK_TASK_CREATE, 8, 20, 0);
+    reader_waits();
+    interrupt_posts("the clock posts", CLOCK);
+    interrupt_posts("the card posts", CARD);
+    reader_waits();
+    interrupt_posts("the card posts", CARD);
+    interrupt_posts("the clock posts", CLOCK);
+}
+
 int main(void)
 {
     first_case();
     two_mutexes();
+    card_and_clock();
     return 0;
 }

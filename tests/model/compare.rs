@@ -9,263 +9,32 @@
 //!
 //! S is a number or `now`. At the first difference the program tells it and exits with 1.
 
+mod caller;
 mod damage;
 mod image;
 mod kernel;
+mod met;
+mod port;
 mod random;
+mod tables;
 
+use caller::Caller;
 use image::{meaning, COLUMNS, IMAGE};
-use kernel::{body, read_call, write_call, Call, Kernel, Outcome, State, KINDS, RULES};
-use random::{Caller, Random, BORDERS};
-use std::collections::BTreeMap;
+use kernel::kinds::{body, read_call};
+use kernel::rules::RULES;
+use kernel::{Call, Kernel, NUMBERS};
+use met::Met;
+use port::{all_in_words, compare, fail, hex, step_both, step_on_null, tell_difference, tell_image, Difference, Lent, UNSOUND};
+use random::{Random, BORDERS};
 use std::time::Instant;
-
-// ---------------------------------------------------------------------------------------------------
-// The port
-
-#[repr(C)]
-#[derive(Clone, Copy, PartialEq, Eq)]
-struct NtkOutcome {
-    answer: u32,
-    runs: u32,
-}
-
-extern "C" {
-    fn ntk_step(kind: u8, a: u32, b: u32, c: u32, image: *mut u8, length: usize) -> NtkOutcome;
-}
-
-/// The bytes lent to the port, between guards that it must not touch, at any alignment.
-struct Lent {
-    bytes: Vec<u8>,
-    from: usize,
-    to: usize,
-}
-
-const GUARD: usize = 24;
-const GUARD_BYTE: u8 = 0xC3;
-
-impl Lent {
-    fn new(image: &[u8], shift: usize) -> Lent {
-        let from = GUARD + shift % 8;
-        let to = from + image.len();
-        let mut bytes = vec![GUARD_BYTE; to + GUARD];
-        bytes[from..to].copy_from_slice(image);
-        Lent { bytes, from, to }
-    }
-
-    fn image(&self) -> &[u8] {
-        &self.bytes[self.from..self.to]
-    }
-
-    fn lend(&mut self, image: &[u8]) {
-        self.bytes[self.from..self.to].copy_from_slice(image);
-    }
-
-    fn guards_hold(&self) -> bool {
-        let whole = |guard: &[u8]| guard.iter().all(|&byte| byte == GUARD_BYTE);
-        whole(&self.bytes[..self.from]) && whole(&self.bytes[self.to..])
-    }
-
-    fn step(&mut self, call: Call) -> NtkOutcome {
-        let image = &mut self.bytes[self.from..self.to];
-        unsafe { ntk_step(call.kind, call.a, call.b, call.c, image.as_mut_ptr(), image.len()) }
-    }
-}
-
-// ---------------------------------------------------------------------------------------------------
-// One comparison
-
-struct Difference {
-    call: Call,
-    model: NtkOutcome,
-    port: NtkOutcome,
-    /// place, the model's byte, the port's byte
-    byte: Option<(usize, u8, u8)>,
-    guards_hold: bool,
-}
-
-fn expected(outcome: Outcome) -> NtkOutcome {
-    NtkOutcome { answer: outcome.answer, runs: outcome.runs.map_or(0, |t| t as u32 + 1) }
-}
-
-/// "With 15 the task to run is none."
-const UNSOUND: NtkOutcome = NtkOutcome { answer: 15, runs: 0 };
-
-/// Makes a call on the lent image and compares with the model's outcome and image.
-fn compare(lent: &mut Lent, call: Call, model: NtkOutcome, after: &[u8]) -> Result<(), Difference> {
-    let port = lent.step(call);
-    let guards_hold = lent.guards_hold();
-    if port == model && lent.image() == after && guards_hold {
-        return Ok(());
-    }
-    let byte = (0..after.len()).find(|&i| lent.image()[i] != after[i]).map(|i| (i, after[i], lent.image()[i]));
-    Err(Difference { call, model, port, byte, guards_hold })
-}
-
-/// A step of the model and of the port side by side.
-fn step_both(kernel: &mut Kernel, lent: &mut Lent, call: Call) -> Result<u32, Difference> {
-    let outcome = kernel.step(call);
-    if !kernel.sound() {
-        println!("the model itself left an unsound table after {}", in_words(call));
-        std::process::exit(2);
-    }
-    compare(lent, call, expected(outcome), &kernel.encode())?;
-    Ok(outcome.answer)
-}
-
-// ---------------------------------------------------------------------------------------------------
-// Reports
-
-fn hex(bytes: &[u8]) -> String {
-    bytes.iter().map(|byte| format!("{byte:02X}")).collect::<Vec<_>>().join(" ")
-}
-
-/// A call as tape hex, or with its numbers where a tape cannot carry it.
-fn in_words(call: Call) -> String {
-    match write_call(call) {
-        Some(bytes) => hex(&bytes),
-        None => format!("(port only: kind {:02X}, numbers {} {} {})", call.kind, call.a, call.b, call.c),
-    }
-}
-
-fn all_in_words(calls: &[Call]) -> String {
-    calls.iter().map(|&call| in_words(call)).collect::<Vec<_>>().join(" / ")
-}
-
-/// What of an image is not zero, with its meaning.
-fn tell_image(image: &[u8]) {
-    for (i, byte) in image.iter().enumerate().filter(|(_, &byte)| byte != 0) {
-        println!("    {i:4} = {byte:3}  {}", meaning(i));
-    }
-}
-
-fn tell_difference(difference: &Difference) {
-    let outcome = |o: NtkOutcome| {
-        let runs = if o.runs == 0 { "-".to_string() } else { o.runs.wrapping_sub(1).to_string() };
-        format!("{} {runs}", o.answer)
-    };
-    println!("  call   {}", in_words(difference.call));
-    println!("  model  {}", outcome(difference.model));
-    println!("  port   {}", outcome(difference.port));
-    match difference.byte {
-        Some((i, model, port)) => {
-            println!("  first differing byte: {i} ({}): model {model}, port {port}", meaning(i));
-        }
-        None => println!("  the images are equal"),
-    }
-    if !difference.guards_hold {
-        println!("  the port wrote outside the image");
-    }
-}
-
-fn fail() -> ! {
-    std::process::exit(1)
-}
 
 // ---------------------------------------------------------------------------------------------------
 // random
 
-/// What the sequences met, to show that they reach the corners.
-#[derive(Default)]
-struct Met {
-    /// by kind and answer
-    answers: BTreeMap<(u8, u32), u64>,
-    longest_chain: usize,
-    rings: u64,
-    largest_ring: usize,
-    wraps: u64,
-    suspended_given: u64,
-    forced: u64,
-    forced_on_ring: u64,
-    several_due: u64,
-    locked: u64,
-}
-
-impl Met {
-    fn note(&mut self, before: &Kernel, after: &Kernel, call: Call, answer: u32) {
-        *self.answers.entry((call.kind & 0x7F, answer)).or_default() += 1;
-        self.locked += u64::from(before.depth > 0);
-        if answer == 14 {
-            self.note_chain(after, before.running.unwrap());
-        }
-        if answer != 0 {
-            return;
-        }
-        let waits = |t: usize| before.tasks[t].suspends > 0 && before.tasks[t].state != State::Plain;
-        let ended = |t: usize| after.tasks[t].used && after.tasks[t].state == State::Plain;
-        match call.kind & 0x7F {
-            0x0B => {
-                self.wraps += u64::from(after.tick == 0);
-                let due = before.tasks.iter().filter(|task| task.mark == Some(after.tick)).count();
-                self.several_due += u64::from(due > 1);
-            }
-            0x13 | 0x23 => self.suspended_given += u64::from((0..32).any(|t| waits(t) && ended(t))),
-            0x21 => {
-                let mutex = &before.mutexes[call.a as usize];
-                self.forced += u64::from(mutex.queue.len() > 1);
-                let ring = |&t: &usize| before.leads(mutex.holder.unwrap(), t);
-                self.forced_on_ring += u64::from(mutex.queue.iter().any(ring));
-            }
-            _ => {}
-        }
-    }
-
-    fn note_chain(&mut self, after: &Kernel, caller: usize) {
-        let chain = after.chain(caller);
-        self.longest_chain = self.longest_chain.max(chain.len());
-        if after.waits_for_holder(*chain.last().unwrap()).is_some() {
-            self.rings += 1;
-            self.largest_ring = self.largest_ring.max(chain.len());
-        }
-    }
-
-    fn tell(&self) {
-        println!("  longest chain {}, rings closed {} (largest {})", self.longest_chain, self.rings, self.largest_ring);
-        println!("  tick wraps {}, ticks with several due {}, calls when locked {}", self.wraps, self.several_due, self.locked);
-        println!("  suspended waiters given {}, forced mutex deletes with several waiters {}, on a ring {}", self.suspended_given, self.forced, self.forced_on_ring);
-        let mut unmet = vec![];
-        for (kind, name, _) in KINDS {
-            let counts = self.answers.range((kind, 0)..=(kind, 15));
-            let list: Vec<String> = counts.map(|((_, answer), count)| format!("{answer}: {count}")).collect();
-            println!("  {kind:02X} {name:17} {}", list.join(", "));
-            let missing = possible(kind).iter().filter(|&&answer| !self.answers.contains_key(&(kind, answer)));
-            unmet.extend(missing.map(|answer| format!("{name} {answer}")));
-        }
-        if unmet.is_empty() {
-            println!("  every answer that a kind can give was met");
-        } else {
-            println!("  not met: {}", unmet.join(", "));
-        }
-    }
-}
-
-/// The answers that a kind can give on a sound table.
-fn possible(kind: u8) -> &'static [u32] {
-    match kind {
-        0x01 => &[0, 1, 3, 4, 5],
-        0x02 => &[0, 1, 2, 5, 7, 13],
-        0x03 => &[0, 1, 2, 4, 5],
-        0x04 => &[0, 1, 2, 5, 7, 10],
-        0x05 | 0x08 | 0x14 | 0x24 => &[0, 1, 2, 5, 12],
-        0x06 => &[0, 5, 6, 7, 12],
-        0x07 => &[0, 4, 5, 6, 7],
-        0x09 => &[0, 5, 10],
-        0x0A => &[0, 5, 12],
-        0x0B => &[0],
-        0x10 | 0x20 => &[0, 1, 3, 5],
-        0x11 | 0x21 => &[0, 1, 2, 4, 5, 13],
-        0x12 => &[0, 1, 2, 4, 5, 6, 7, 8, 14],
-        0x13 => &[0, 1, 2, 11],
-        0x22 => &[0, 1, 2, 4, 5, 6, 7, 8, 10, 14],
-        0x23 => &[0, 1, 2, 5, 6, 9],
-        _ => &[],
-    }
-}
-
 /// Plays one sequence; the calls made so far are left in `calls`.
 fn sequence(seed: u64, longest: usize, calls: &mut Vec<Call>, met: &mut Met) -> Result<(), (Kernel, Difference)> {
     let mut random = Random::new(seed);
-    let start = random::start(&mut random);
+    let start = tables::start(&mut random);
     let mut caller = Caller::new(&mut random);
     let mut kernel = start.clone();
     let mut lent = Lent::new(&start.encode(), seed as usize);
@@ -351,7 +120,7 @@ fn tell_speed(made: usize, what: &str, began: Instant) {
 
 /// A table that calls reach, worked out by the model alone, and how.
 fn reached(random: &mut Random) -> (Kernel, Caller) {
-    let mut kernel = random::start(random);
+    let mut kernel = tables::start(random);
     let mut caller = Caller::new(random);
     for _ in 0..random.between(10, 300) {
         let call = caller.next(random, &kernel);
@@ -492,7 +261,7 @@ fn lengths(seed: u64, up_to: usize) {
                 })
                 .collect();
             let kind = if filling == 1 { 0x0B } else { random.next() as u8 };
-            let call = Call { kind, a: random.border(), b: random.border(), c: random.border() };
+            let call = Call { kind, numbers: random.borders() };
             let mut lent = Lent::new(&image, length);
             made += 1;
             if let Err(difference) = compare(&mut lent, call, UNSOUND, &image) {
@@ -508,8 +277,8 @@ fn lengths(seed: u64, up_to: usize) {
 
 fn null_images(random: &mut Random) {
     for kind in 0..=255u8 {
-        let call = Call { kind, a: random.border(), b: random.border(), c: random.border() };
-        let port = unsafe { ntk_step(kind, call.a, call.b, call.c, std::ptr::null_mut(), 0) };
+        let call = Call { kind, numbers: random.borders() };
+        let port = step_on_null(call);
         if port != UNSOUND {
             println!("DIFFERENCE at null with length 0");
             tell_difference(&Difference { call, model: UNSOUND, port, byte: None, guards_hold: true });
@@ -521,23 +290,26 @@ fn null_images(random: &mut Random) {
 // ---------------------------------------------------------------------------------------------------
 // kinds
 
-/// A kind with border numbers: every combination of `all` of the numbers that the kind uses, and some
-/// of the others.
+/// A kind with border numbers: every combination of them where the kind uses no more than `all`, else of each
+/// two that stand side by side.
 fn calls_of_kind(random: &mut Random, kind: u8, all: usize) -> Vec<Call> {
-    let served = kind < 0x80 || kind == 0x93;
-    let numbers = body(kind).map_or(1, |widths| widths.len());
-    let uses = if served { numbers.min(all) } else { 1 };
-    let more = if served && numbers > all { 4 } else { 1 };
+    let served = kind < 0x80 || kind == 0x93 || kind == 0xB3;
+    let uses = if served { body(kind).map_or(1, |widths| widths.len()) } else { 1 };
+    let (size, windows) = if uses <= all { (uses, 1) } else { (2, uses) };
     let mut calls = vec![];
-    for place in 0..BORDERS.len().pow(uses as u32) * more {
-        let mut numbers = [random.border(), random.border(), random.border()];
-        let mut rest = place;
+    for place in 0..BORDERS.len().pow(size as u32) * windows {
+        let mut numbers: [u32; NUMBERS] = random.borders();
         for number in numbers.iter_mut().take(uses) {
-            *number = BORDERS[rest % BORDERS.len()];
+            if random.chance(80) {
+                *number = random.below(4) as u32;
+            }
+        }
+        let mut rest = place / windows;
+        for i in 0..size {
+            numbers[(place + i) % uses] = BORDERS[rest % BORDERS.len()];
             rest /= BORDERS.len();
         }
-        let [a, b, c] = numbers;
-        calls.push(Call { kind, a, b, c });
+        calls.push(Call { kind, numbers });
     }
     calls
 }
@@ -550,7 +322,7 @@ fn table_for_kinds(random: &mut Random, n: usize) -> Kernel {
         _ => {}
     }
     loop {
-        let kernel = if n % 2 == 0 { random::table(random) } else { reached(random).0 };
+        let kernel = if n % 2 == 0 { tables::table(random) } else { reached(random).0 };
         if kernel.running.is_some() || n % 8 == 7 {
             return kernel;
         }
@@ -569,7 +341,7 @@ fn kinds(seed: u64, tables: usize) {
         let image = start.encode();
         let mut lent = Lent::new(&image, n);
         for kind in 0..=255 {
-            for call in calls_of_kind(&mut random, kind, if n < 4 { 3 } else { 2 }) {
+            for call in calls_of_kind(&mut random, kind, if n == 2 || n == 3 { 3 } else { 2 }) {
                 let mut kernel = start.clone();
                 lent.lend(&image);
                 made += 1;

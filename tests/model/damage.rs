@@ -2,8 +2,9 @@
 //! another sound table comes out.
 
 use crate::image::{COLUMNS, IMAGE};
-use crate::kernel::{Kernel, Place, State, Task, OBJECTS, TASKS};
-use crate::random::{arrange, settle, Random};
+use crate::kernel::{Kernel, Place, State, Task, GROUPS, OBJECTS, TASKS};
+use crate::random::Random;
+use crate::tables::{arrange, settle, some_wanted};
 
 /// A damaged copy of the image; `other` is a second image to take bytes from.
 pub fn damaged(random: &mut Random, kernel: &Kernel, other: &[u8]) -> Vec<u8> {
@@ -67,11 +68,12 @@ fn stale_chain(random: &mut Random, mut kernel: Kernel) -> Kernel {
 
 fn damaged_fields(random: &mut Random, mut kernel: Kernel) -> Kernel {
     for _ in 0..random.pick(&[1, 1, 1, 2, 3]) {
-        match random.below(10) {
+        match random.below(11) {
             0..=3 => damage_task(random, &mut kernel),
             4 => damage_semaphore(random, &mut kernel),
             5 | 6 => damage_mutex(random, &mut kernel),
             7 | 8 => damage_queue(random, &mut kernel),
+            9 => damage_flags(random, &mut kernel),
             _ => damage_rest(random, &mut kernel),
         }
     }
@@ -121,10 +123,11 @@ fn free_or_use(random: &mut Random, task: &mut Task) {
 }
 
 fn some_state(random: &mut Random) -> State {
-    match random.below(6) {
+    match random.below(8) {
         0 => State::Plain,
         1 => State::Delayed,
         2 | 3 => State::Semaphore(random.below(OBJECTS)),
+        4 | 5 => State::Flags(random.below(GROUPS), some_wanted(random)),
         _ => State::Mutex(random.below(OBJECTS)),
     }
 }
@@ -159,6 +162,23 @@ fn damage_mutex(random: &mut Random, kernel: &mut Kernel) {
             mutex.holder = Some(any);
             mutex.nesting = mutex.nesting.max(1);
         }
+    }
+}
+
+/// A group, or what one of its waiters wants.
+fn damage_flags(random: &mut Random, kernel: &mut Kernel) {
+    let waited = random.pick_from((0..GROUPS).filter(|&g| !kernel.groups[g].queue.is_empty()));
+    let g = if random.chance(60) { waited.unwrap_or(0) } else { random.below(GROUPS) };
+    let waiter = random.pick_from(kernel.groups[g].queue.iter().copied());
+    match (random.below(4), waiter) {
+        (0, _) => kernel.groups[g].used = !kernel.groups[g].used,
+        (1, _) => kernel.groups[g].flags = random.pick(&[0, 1, 256, u32::MAX]),
+        (_, Some(t)) => {
+            let mut wanted = some_wanted(random);
+            wanted.mask = random.pick(&[0, 0, 1, u32::MAX, wanted.mask]);
+            kernel.tasks[t].state = State::Flags(g, wanted);
+        }
+        _ => {}
     }
 }
 

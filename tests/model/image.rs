@@ -1,11 +1,11 @@
 //! The image: which byte says what, from docs/IMAGE.md. No other file of the model names a byte.
 #![allow(dead_code)]
 
-use crate::kernel::{Kernel, State, Task, OBJECTS, TASKS};
+use crate::kernel::{Kernel, State, Task, Test, Wanted, GROUPS, OBJECTS, TASKS};
 
-pub const IMAGE: usize = 1702;
+pub const IMAGE: usize = 2190;
 
-const QUEUES: usize = 1 + 2 * OBJECTS;
+const QUEUES: usize = 1 + 2 * OBJECTS + GROUPS;
 const SLOTS: usize = TASKS;
 
 /// One field of all tasks or objects, or all slots, or a single number. "Numbers of two and four bytes have
@@ -35,18 +35,23 @@ columns! {
     OBJECT: "task", "object waited for", 160, 1, TASKS;
     MARKED: "task", "has a due mark", 192, 1, TASKS;
     OUTCOME: "task", "outcome", 224, 1, TASKS;
-    QUANTUM: "task", "quantum", 256, 2, TASKS;
-    LEFT: "task", "left of the quantum", 320, 2, TASKS;
-    DUE: "task", "due mark", 384, 4, TASKS;
-    SEMAPHORE_USED: "semaphore", "in use", 512, 1, OBJECTS;
-    COUNT: "semaphore", "count", 528, 4, OBJECTS;
-    MUTEX_USED: "mutex", "in use", 592, 1, OBJECTS;
-    HOLDER: "mutex", "holder plus 1", 608, 1, OBJECTS;
-    NESTING: "mutex", "nesting", 624, 1, OBJECTS;
-    SLOT: "queue", "slot", 640, 1, QUEUES * SLOTS;
-    TICK: "", "tick counter", 1696, 4, 1;
-    DEPTH: "", "lock depth", 1700, 1, 1;
-    RUNNING: "", "running task plus 1", 1701, 1, 1;
+    TEST: "task", "test of its flags", 256, 1, TASKS;
+    CONSUME: "task", "consumes its flags", 288, 1, TASKS;
+    QUANTUM: "task", "quantum", 320, 2, TASKS;
+    LEFT: "task", "left of the quantum", 384, 2, TASKS;
+    DUE: "task", "due mark", 448, 4, TASKS;
+    MASK: "task", "mask of its flags", 576, 4, TASKS;
+    SEMAPHORE_USED: "semaphore", "in use", 704, 1, OBJECTS;
+    COUNT: "semaphore", "count", 720, 4, OBJECTS;
+    MUTEX_USED: "mutex", "in use", 784, 1, OBJECTS;
+    HOLDER: "mutex", "holder plus 1", 800, 1, OBJECTS;
+    NESTING: "mutex", "nesting", 816, 1, OBJECTS;
+    GROUP_USED: "group", "in use", 832, 1, GROUPS;
+    FLAGS: "group", "flags", 840, 4, GROUPS;
+    SLOT: "queue", "slot", 872, 1, QUEUES * SLOTS;
+    TICK: "", "tick counter", 2184, 4, 1;
+    DEPTH: "", "lock depth", 2188, 1, 1;
+    RUNNING: "", "running task plus 1", 2189, 1, 1;
 }
 
 /// "There is no padding": each column begins where the one before it ends.
@@ -121,6 +126,10 @@ impl Kernel {
             HOLDER.put(at, m, plus_one(mutex.holder));
             NESTING.put(at, m, mutex.nesting.into());
         }
+        for (g, group) in self.groups.iter().enumerate() {
+            GROUP_USED.put(at, g, group.used.into());
+            FLAGS.put(at, g, group.flags);
+        }
         for (q, place) in Kernel::places().enumerate() {
             for (slot, &t) in self.queue(place).iter().enumerate() {
                 SLOT.put(at, q * SLOTS + slot, plus_one(Some(t)));
@@ -150,6 +159,10 @@ impl Kernel {
             mutex.holder = HOLDER.task_or_none(image, m)?;
             mutex.nesting = NESTING.byte(image, m);
         }
+        for (g, group) in kernel.groups.iter_mut().enumerate() {
+            group.used = GROUP_USED.flag(image, g)?;
+            group.flags = FLAGS.get(image, g);
+        }
         for (q, place) in Kernel::places().enumerate() {
             *kernel.queue_mut(place) = decode_queue(image, q)?;
         }
@@ -175,6 +188,7 @@ fn encode_task(task: &Task, t: usize, image: &mut [u8]) {
         State::Delayed => (1, 0),
         State::Semaphore(s) => (2, s),
         State::Mutex(m) => (3, m),
+        State::Flags(g, _) => (4, g),
     };
     USED.put(image, t, task.used.into());
     BASE.put(image, t, task.base.into());
@@ -187,17 +201,37 @@ fn encode_task(task: &Task, t: usize, image: &mut [u8]) {
     QUANTUM.put(image, t, task.quantum.into());
     LEFT.put(image, t, task.left.into());
     DUE.put(image, t, task.mark.unwrap_or(0));
+    if let State::Flags(_, wanted) = task.state {
+        TEST.put(image, t, wanted.test as u32);
+        CONSUME.put(image, t, wanted.consume.into());
+        MASK.put(image, t, wanted.mask);
+    }
+}
+
+/// What a task wants of the flags of a group: "0 in every state but 4".
+fn decode_wanted(image: &[u8], t: usize) -> Option<Wanted> {
+    let test = Test::from_number(TEST.get(image, t))?;
+    Some(Wanted { mask: MASK.get(image, t), test, consume: CONSUME.flag(image, t)? })
+}
+
+fn wants_nothing(image: &[u8], t: usize) -> bool {
+    [TEST, CONSUME, MASK].iter().all(|column| column.get(image, t) == 0)
+}
+
+fn decode_state(image: &[u8], t: usize) -> Option<State> {
+    let object = OBJECT.get(image, t) as usize;
+    match STATE.get(image, t) {
+        4 if object < GROUPS => Some(State::Flags(object, decode_wanted(image, t)?)),
+        _ if !wants_nothing(image, t) => None,
+        0 if object == 0 => Some(State::Plain),
+        1 if object == 0 => Some(State::Delayed),
+        2 if object < OBJECTS => Some(State::Semaphore(object)),
+        3 if object < OBJECTS => Some(State::Mutex(object)),
+        _ => None,
+    }
 }
 
 fn decode_task(image: &[u8], t: usize) -> Option<Task> {
-    let object = OBJECT.get(image, t) as usize;
-    let state = match STATE.get(image, t) {
-        0 if object == 0 => State::Plain,
-        1 if object == 0 => State::Delayed,
-        2 if object < OBJECTS => State::Semaphore(object),
-        3 if object < OBJECTS => State::Mutex(object),
-        _ => return None,
-    };
     let mark = match (MARKED.flag(image, t)?, DUE.get(image, t)) {
         (true, mark) => Some(mark),
         (false, 0) => None,
@@ -210,7 +244,7 @@ fn decode_task(image: &[u8], t: usize) -> Option<Task> {
         suspends: SUSPENDS.byte(image, t),
         quantum: QUANTUM.get(image, t) as u16,
         left: LEFT.get(image, t) as u16,
-        state,
+        state: decode_state(image, t)?,
         mark,
         outcome: OUTCOME.byte(image, t),
     })
@@ -248,7 +282,8 @@ fn field(column: &Column, i: usize) -> String {
         ("", ..) => name.to_string(),
         ("queue", 0, slot) => format!("able queue, {name} {slot}"),
         ("queue", q, slot) if q <= OBJECTS => format!("queue of semaphore {}, {name} {slot}", q - 1),
-        ("queue", q, slot) => format!("queue of mutex {}, {name} {slot}", q - 1 - OBJECTS),
+        ("queue", q, slot) if q <= 2 * OBJECTS => format!("queue of mutex {}, {name} {slot}", q - 1 - OBJECTS),
+        ("queue", q, slot) => format!("queue of group {}, {name} {slot}", q - 1 - 2 * OBJECTS),
         (of, ..) => format!("{of} {i}: {name}"),
     }
 }

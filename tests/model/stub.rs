@@ -13,13 +13,15 @@ pub struct NtkOutcome {
 /// # Safety
 /// `image` points to `length` bytes, or `length` is 0.
 #[no_mangle]
-pub unsafe extern "C" fn ntk_step(kind: u8, a: u32, b: u32, c: u32, image: *mut u8, length: usize) -> NtkOutcome {
+pub unsafe extern "C" fn ntk_step(
+    kind: u8, a: u32, b: u32, c: u32, d: u32, e: u32, f: u32, image: *mut u8, length: usize,
+) -> NtkOutcome {
     let bytes = if length == 0 { &mut [] } else { std::slice::from_raw_parts_mut(image, length) };
     let mut kernel = match Kernel::judge(bytes) {
         Ok(kernel) => kernel,
         Err(_) => return NtkOutcome { answer: 15, runs: 0 },
     };
-    let outcome = kernel.step(Call { kind, a, b, c });
+    let outcome = kernel.step(Call { kind, numbers: [a, b, c, d, e, f] });
     bytes.copy_from_slice(&kernel.encode());
     NtkOutcome { answer: outcome.answer, runs: outcome.runs.map_or(0, |t| t as u32 + 1) }
 }

@@ -1,7 +1,8 @@
 //! Plays a tape through the model and prints its lines: `tape FILE`, or from standard input.
 mod kernel;
 
-use kernel::{read_call, Kernel};
+use kernel::kinds::read_call;
+use kernel::Kernel;
 use std::io::{self, Read, Write};
 
 /// "For each call one line: answer, a space, the running task's number or `-`. An unknown kind or a cut

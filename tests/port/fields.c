@@ -43,39 +43,48 @@ static void read_all(const char *what)
 
 struct call {
     uint8_t kind;
-    uint32_t a, b, c, answer;
+    uint32_t n[6], answer;
 };
 
 /* Tasks 31, 5 and 0 in the order of their urgency: 31 holds a mutex twice over and waits for a semaphore, 5 waits for that mutex, 0 is
- * delayed. 5 comes back by its limit, waits again and comes back by a forced delete; 31 by a post, and 0 by a delay resume. */
+ * delayed. 5 comes back by its limit, waits again and comes back by a forced delete; 31 by a post, and 0 by a delay resume. Then 31 waits
+ * for flags, 0 posts one of them, and 31 consumes it; in the end both wait, 31 for all flags and 0 until two are clear. */
 static const struct call calls[] = {
-    {NTK_LOCK, 0, 0, 0, NTK_DONE},
-    {NTK_TASK_CREATE, 0, 62, 65535, NTK_DONE},
-    {NTK_TASK_CREATE, 31, 0, 1, NTK_DONE},
-    {NTK_TASK_CREATE, 5, 10, 300, NTK_DONE},
-    {NTK_UNLOCK, 0, 0, 0, NTK_DONE},
-    {NTK_MUTEX_CREATE, 0, 0, 0, NTK_DONE},
-    {NTK_MUTEX_CREATE, 15, 0, 0, NTK_DONE},
-    {NTK_MUTEX_WAIT, 15, 1, 0, NTK_DONE},
-    {NTK_MUTEX_WAIT, 15, 1, 0, NTK_DONE},
-    {NTK_SEMAPHORE_CREATE, 3, 4294967295u, 0, NTK_DONE},
-    {NTK_SEMAPHORE_CREATE, 15, 0, 0, NTK_DONE},
-    {NTK_CHANGE_PRIORITY, 5, 33, 0, NTK_DONE},
-    {NTK_SEMAPHORE_WAIT, 15, 1, 3000000000u, NTK_BLOCKS},
-    {NTK_MUTEX_WAIT, 15, 1, 2, NTK_BLOCKS},
-    {NTK_DELAY, 70000, 0, 0, NTK_DONE},
-    {NTK_TICK | NTK_INTERRUPT, 0, 0, 0, NTK_DONE},
-    {NTK_TICK | NTK_INTERRUPT, 0, 0, 0, NTK_DONE},
-    {NTK_SEMAPHORE_CREATE, 4, 0, 0, NTK_DONE},
-    {NTK_SEMAPHORE_WAIT, 4, 1, 0, NTK_BLOCKS},
-    {NTK_SUSPEND, 5, 0, 0, NTK_DONE},
-    {NTK_SUSPEND, 5, 0, 0, NTK_DONE},
-    {NTK_SEMAPHORE_POST | NTK_INTERRUPT, 15, 0, 0, NTK_DONE},
-    {NTK_LOCK, 0, 0, 0, NTK_DONE},
-    {NTK_LOCK, 0, 0, 0, NTK_DONE},
-    {NTK_TICK | NTK_INTERRUPT, 0, 0, 0, NTK_DONE},
-    {NTK_SEMAPHORE_DELETE, 4, 1, 0, NTK_DONE},
-    {NTK_DELAY_RESUME, 0, 0, 0, NTK_DONE},
+    {NTK_LOCK, {0}, NTK_DONE},
+    {NTK_TASK_CREATE, {0, 62, 65535}, NTK_DONE},
+    {NTK_TASK_CREATE, {31, 0, 1}, NTK_DONE},
+    {NTK_TASK_CREATE, {5, 10, 300}, NTK_DONE},
+    {NTK_UNLOCK, {0}, NTK_DONE},
+    {NTK_MUTEX_CREATE, {0}, NTK_DONE},
+    {NTK_MUTEX_CREATE, {15}, NTK_DONE},
+    {NTK_MUTEX_WAIT, {15, 1}, NTK_DONE},
+    {NTK_MUTEX_WAIT, {15, 1}, NTK_DONE},
+    {NTK_SEMAPHORE_CREATE, {3, 4294967295u}, NTK_DONE},
+    {NTK_SEMAPHORE_CREATE, {15}, NTK_DONE},
+    {NTK_CHANGE_PRIORITY, {5, 33}, NTK_DONE},
+    {NTK_SEMAPHORE_WAIT, {15, 1, 3000000000u}, NTK_BLOCKS},
+    {NTK_MUTEX_WAIT, {15, 1, 2}, NTK_BLOCKS},
+    {NTK_DELAY, {70000}, NTK_DONE},
+    {NTK_TICK | NTK_INTERRUPT, {0}, NTK_DONE},
+    {NTK_TICK | NTK_INTERRUPT, {0}, NTK_DONE},
+    {NTK_SEMAPHORE_CREATE, {4}, NTK_DONE},
+    {NTK_SEMAPHORE_WAIT, {4, 1}, NTK_BLOCKS},
+    {NTK_SUSPEND, {5}, NTK_DONE},
+    {NTK_SUSPEND, {5}, NTK_DONE},
+    {NTK_SEMAPHORE_POST | NTK_INTERRUPT, {15}, NTK_DONE},
+    {NTK_LOCK, {0}, NTK_DONE},
+    {NTK_LOCK, {0}, NTK_DONE},
+    {NTK_TICK | NTK_INTERRUPT, {0}, NTK_DONE},
+    {NTK_SEMAPHORE_DELETE, {4, 1}, NTK_DONE},
+    {NTK_DELAY_RESUME, {0}, NTK_DONE},
+    {NTK_UNLOCK, {0}, NTK_DONE},
+    {NTK_UNLOCK, {0}, NTK_DONE},
+    {NTK_GROUP_CREATE, {0}, NTK_DONE},
+    {NTK_GROUP_CREATE, {7, 0x80000100u}, NTK_DONE},
+    {NTK_GROUP_WAIT, {7, 1, 5, 0x40000002, NTK_ANY_SET, 1}, NTK_BLOCKS},
+    {NTK_GROUP_POST, {7, 0x40000000, 1}, NTK_DONE},
+    {NTK_GROUP_WAIT, {7, 1, 0, 4294967295u, NTK_ALL_SET, 1}, NTK_BLOCKS},
+    {NTK_GROUP_WAIT, {7, 1, 4294967295u, 0x80000100u, NTK_ALL_CLEAR, 0}, NTK_BLOCKS},
 };
 
 static void play(void)
@@ -85,7 +94,7 @@ static void play(void)
 
     for (i = 0; i < sizeof calls / sizeof calls[0]; i++) {
         const struct call *c = &calls[i];
-        struct ntk_outcome o = ntk_step(c->kind, c->a, c->b, c->c, table, NTK_IMAGE_SIZE);
+        struct ntk_outcome o = ntk_step(c->kind, c->n[0], c->n[1], c->n[2], c->n[3], c->n[4], c->n[5], table, NTK_IMAGE_SIZE);
         ticks += c->kind == (NTK_TICK | NTK_INTERRUPT);
         expect("the answer of a call", c->kind, (uint32_t)i, c->answer, o.answer);
         read_all("after a call");
@@ -97,7 +106,15 @@ static void play(void)
 /* What the calls have brought about, in the header's own words. */
 static void after_play(void)
 {
-    expect("task 31's state", 0, 31, NTK_PLAIN, ntk_read(NTK_FIELD_TASK_STATE, 31, table, NTK_IMAGE_SIZE));
+    expect("task 31's state", 0, 31, NTK_WAITS_FLAGS, ntk_read(NTK_FIELD_TASK_STATE, 31, table, NTK_IMAGE_SIZE));
+    expect("task 31's mask", 0, 31, 4294967295u, ntk_read(NTK_FIELD_TASK_MASK, 31, table, NTK_IMAGE_SIZE));
+    expect("task 31's consuming", 0, 31, 1, ntk_read(NTK_FIELD_TASK_CONSUME, 31, table, NTK_IMAGE_SIZE));
+    expect("task 0's object", 0, 0, 7, ntk_read(NTK_FIELD_TASK_OBJECT, 0, table, NTK_IMAGE_SIZE));
+    expect("task 0's test", 0, 0, NTK_ALL_CLEAR, ntk_read(NTK_FIELD_TASK_TEST, 0, table, NTK_IMAGE_SIZE));
+    expect("task 5's mask", 0, 5, 0, ntk_read(NTK_FIELD_TASK_MASK, 5, table, NTK_IMAGE_SIZE));
+    expect("group 0's flags", 0, 0, 0, ntk_flags_of(table, 0));
+    expect("group 7's flags", 0, 7, 0x80000100u, ntk_flags_of(table, 7));
+    expect("the flags of no group", 0, 8, NTK_NO_FIELD, ntk_flags_of(table, 8));
     expect("task 31's wait", 0, 31, NTK_GIVEN, ntk_wait_of(table, 31));
     expect("task 5's wait", 0, 5, NTK_DELETED, ntk_wait_of(table, 5));
     expect("the wait of no task", 0, 32, NTK_NO_SUCH_TASK, ntk_wait_of(table, 32));
@@ -108,8 +125,9 @@ static void after_play(void)
     expect("mutex 15's holder", 0, 15, 32, ntk_read(NTK_FIELD_MUTEX_HOLDER, 15, table, NTK_IMAGE_SIZE));
     expect("mutex 15's nesting", 0, 15, 2, ntk_read(NTK_FIELD_MUTEX_NESTING, 15, table, NTK_IMAGE_SIZE));
     expect("semaphore 3's count", 0, 3, NTK_MOST_COUNT, ntk_read(NTK_FIELD_SEMAPHORE_COUNT, 3, table, NTK_IMAGE_SIZE));
-    expect("the first able task", 0, 0, 32, ntk_slot_of(table, NTK_ABLE_QUEUE, 0));
-    expect("the second able task", 0, 1, 1, ntk_slot_of(table, NTK_ABLE_QUEUE, 1));
+    expect("the first able task", 0, 0, 0, ntk_slot_of(table, NTK_ABLE_QUEUE, 0));
+    expect("group 7's first waiter", 0, 0, 32, ntk_slot_of(table, NTK_GROUP_QUEUE(7), 0));
+    expect("group 7's second waiter", 0, 1, 1, ntk_slot_of(table, NTK_GROUP_QUEUE(7), 1));
     expect("slot 32 of a queue", 0, 32, NTK_NO_FIELD, ntk_slot_of(table, NTK_ABLE_QUEUE, 32));
     expect("a slot of no queue", 0, 0, NTK_NO_FIELD, ntk_slot_of(table, NTK_QUEUES, 0));
     expect("a slot of no queue", 0, 0, NTK_NO_FIELD, ntk_slot_of(table, 134217728u, 0));
@@ -142,13 +160,13 @@ static void at_random(void)
 
 static void unknown(void)
 {
-    static const uint32_t far[] = {1056, 1057, 65536, 65567, 2147483648u, 4294967264u, 4294967295u};
+    static const uint32_t far[] = {1312, 1313, 65536, 65567, 2147483648u, 4294967264u, 4294967295u};
     static const size_t lengths[] = {0, 1, 31, NTK_IMAGE_SIZE - 1, NTK_IMAGE_SIZE + 1, 2 * NTK_IMAGE_SIZE};
     uint32_t field, n, bit;
     size_t i, k;
 
     for (field = 0; field < 256; field++) {
-        for (n = 0; n < 1100; n++)
+        for (n = 0; n < 1400; n++)
             read_one("of any number", field, n, NTK_IMAGE_SIZE, decode(field, n, table));
         for (k = 0; k < sizeof far / sizeof far[0]; k++)
             read_one("of a far number", field, far[k], NTK_IMAGE_SIZE, NTK_NO_FIELD);

@@ -12,6 +12,7 @@ fn is_for_interrupts(c: rules::Call) -> bool
     match c {
         rules::Call::Tick => true,
         rules::Call::SemaphorePost(_) => true,
+        rules::Call::GroupPost(_, _, _) => true,
         _ => false,
     }
 }
@@ -46,6 +47,13 @@ fn serve_task(s: &mut [u8], c: rules::Call) -> u8
         rules::Call::MutexWait(i, block, limit) => mutex::wait(s, i, block, limit),
         rules::Call::MutexPost(i) => mutex::post(s, i),
         rules::Call::MutexAbort(i) => mutex::abort(s, i),
+        rules::Call::GroupCreate(i, flags) => group::create(s, i, flags),
+        rules::Call::GroupDelete(i, force) => group::delete(s, i, force),
+        rules::Call::GroupWait(i, block, limit, mask, test, consume) => {
+            group::wait(s, i, block, limit, mask, test, consume)
+        }
+        rules::Call::GroupPost(i, mask, on) => group::post(s, i, mask, on),
+        rules::Call::GroupAbort(i) => group::abort(s, i),
     }
 }
 

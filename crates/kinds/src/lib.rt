@@ -37,6 +37,9 @@ fn row_of(k: u8, numbers: Numbers) -> Row
     let a = numbers[0];
     let b = numbers[1];
     let c = numbers[2];
+    let d = numbers[3];
+    let e = numbers[4];
+    let f = numbers[5];
     match k {
         0x01 => Row::Has(rules::Call::TaskCreate(a, b, c), 0x211),
         0x02 => Row::Has(rules::Call::TaskDelete(a), 0x1),
@@ -59,6 +62,11 @@ fn row_of(k: u8, numbers: Numbers) -> Row
         0x22 => Row::Has(rules::Call::MutexWait(a, b, c), 0x411),
         0x23 => Row::Has(rules::Call::MutexPost(a), 0x1),
         0x24 => Row::Has(rules::Call::MutexAbort(a), 0x1),
+        0x30 => Row::Has(rules::Call::GroupCreate(a, b), 0x41),
+        0x31 => Row::Has(rules::Call::GroupDelete(a, b), 0x11),
+        0x32 => Row::Has(rules::Call::GroupWait(a, b, c, d, e, f), 0x114411),
+        0x33 => Row::Has(rules::Call::GroupPost(a, b, c), 0x141),
+        0x34 => Row::Has(rules::Call::GroupAbort(a), 0x1),
         _ => Row::Lacks,
     }
 }

@@ -11,6 +11,7 @@ pub mod Release
 pub mod Caller
 pub mod Semaphore
 pub mod Mutex
+pub mod Group
 pub mod Calls
 pub mod Sounds
 pub mod Always

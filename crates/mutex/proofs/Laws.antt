@@ -5,7 +5,7 @@ use Prim.Native.Nat.{ℕ, _+_, _-_, _≤_, _<_}
 use lib.Dec.{eqb}
 use borrow.Author.Tests.{le-leb, lt-leb, lt-ltb, le-ltb, eq-eqb, ne-eqb, not-true, not-false}
 use Rattle.rules.specs.Sizes.{mostNested, waitsMutex, given, done, nestedTooDeep}
-use Rattle.rules.specs.Table.{Table, taskOf, mutexOf, holderOf, mutexQueue, noMutex, withMutex}
+use Rattle.rules.specs.Table.{Table, nothingAsked, taskOf, mutexOf, holderOf, mutexQueue, noMutex, withMutex}
 use Rattle.rules.specs.Move.{put, walk, ready}
 use Rattle.rules.specs.Time.{callerOf}
 use Rattle.rules.specs.Object.{blockAnswer, blocked, waits, taken, emptied, objectDelete}
@@ -27,7 +27,7 @@ module _ (i : ℕ) (t : Table) where
       pub blocks-answer : (block : ℕ) → blockAnswer block t ≡ takeAnswer i block t
       blocks-answer block = rw (← holder, ← caller, ne-eqb _ _ held, not-true (eqb h (c + 1)) other)
 
-      pub blocks : (limit : ℕ) → walk (h - 1) (blocked waitsMutex i limit t) ≡ wait i limit t
+      pub blocks : (limit : ℕ) → walk (h - 1) (blocked waitsMutex i limit nothingAsked t) ≡ wait i limit t
       unfolding wait waits holderOf
       blocks limit = rw (← holder, ← caller, ne-eqb _ _ held, not-true (eqb h (c + 1)) other)
 

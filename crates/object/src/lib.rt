@@ -3,7 +3,7 @@
 ghost use mathlib.Core.Path.{_≡_};
 ghost use Prim.Native.Nat.{_+_, _<_};
 ghost use Rattle.rules.specs.Sizes.{done};
-ghost use Rattle.rules.specs.Table.{taskOf, withTask};
+ghost use Rattle.rules.specs.Table.{asking, nothingAsked, taskOf, withTask};
 ghost use Rattle.rules.specs.Move.{walk, chosen};
 ghost use Rattle.rules.specs.Time.{byCaller};
 ghost use Rattle.rules.specs.Object.{onObject, createObject, yesNo, hasWaiter, blockAnswer, limited, blocked, taken, abortAnswer, abort, deleteAnswer, emptied};
@@ -80,10 +80,10 @@ fn set_limit(s: &mut [u8], i: usize, limit: u32)
     tasks::set_mark(s, i, 1, due);
 }
 
-// The caller leaves the able queue and goes behind its equals in the object's queue.
-fn block_on(s: &mut [u8], state: u8, object: u8, limit: u32)
+// The caller leaves the able queue and goes behind its equals in the object's queue; what it asks of flags stands in its record.
+pub fn block_on(s: &mut [u8], state: u8, object: u8, limit: u32, mask: u32, test: u8, consume: u8)
     requires { ⌜ Image (now s) ⌝ }
-    ensures { λ _. ⌜ view (now (s .exit)) ≡ blocked state object limit (view (now (s .entry))) ⌝ }
+    ensures { λ _. ⌜ view (now (s .exit)) ≡ blocked state object limit (asking mask test consume) (view (now (s .entry))) ⌝ }
 {
     let i = numbers::caller_of(s);
     if 32 <= i {
@@ -92,13 +92,14 @@ fn block_on(s: &mut [u8], state: u8, object: u8, limit: u32)
     let q = moves::place_of(s, i);
     set_limit(s, i, limit);
     tasks::set_state(s, i, state, object);
+    tasks::set_asked(s, i, mask, test, consume);
     moves::settle(s, i, q);
 }
 
-// A wait for an object in use that has nothing to take. Where it blocks, the chain from the object's holder moves; 32 for none.
-pub fn wait_for(s: &mut [u8], state: u8, object: u8, holder: usize, block: u32, limit: u32) -> u8
+// The answer of a wait for an object in use that has nothing to take.
+pub fn block_answer(s: &[u8], block: u32) -> u8
     requires { ⌜ Image (now s) ⌝ }
-    ensures { λ r. ⌜ Served (blockAnswer block (view (now (s .entry)))) (chosen (walk holder (blocked state object limit (view (now (s .entry)))))) r (now (s .entry)) (now (s .exit)) ⌝ }
+    ensures { λ r. ⌜ r ≡ blockAnswer block (view (now (s .entry))) ⌝ }
 {
     if block == 0 {
         return 8;
@@ -106,10 +107,22 @@ pub fn wait_for(s: &mut [u8], state: u8, object: u8, holder: usize, block: u32, 
     if !(numbers::get_depth(s) == 0) {
         return 7;
     }
-    block_on(s, state, object, limit);
+    14
+}
+
+// The wait that asks nothing of it, as for semaphores and mutexes. Where it blocks, the chain from the object's holder moves; 32 for none.
+pub fn wait_for(s: &mut [u8], state: u8, object: u8, holder: usize, block: u32, limit: u32) -> u8
+    requires { ⌜ Image (now s) ⌝ }
+    ensures { λ r. ⌜ Served (blockAnswer block (view (now (s .entry)))) (chosen (walk holder (blocked state object limit nothingAsked (view (now (s .entry)))))) r (now (s .entry)) (now (s .exit)) ⌝ }
+{
+    let n = block_answer(s, block);
+    if service::refuses(n) {
+        return n;
+    }
+    block_on(s, state, object, limit, 0, 0, 0);
     walk::walk_from(s, holder);
     moves::choose(s);
-    14
+    n
 }
 
 // The abort of number i.

@@ -12,7 +12,6 @@ use Rattle.rules.specs.Table.{Table}
 use Rattle.rules.specs.Sound.{Sound, isSound}
 use Rattle.rules.specs.Tested.{sound-tested, tested-sound}
 use Rattle.rules.specs.Step.{Outcome, serve, step, unsound, changes}
-use Rattle.rules.specs.Kinds.{reading}
 use Rattle.rules.specs.Port.{says, portStep}
 use Rattle.rules.specs.Tape.{Bytes}
 use Rattle.rules.specs.declared.Call.{Call}
@@ -25,10 +24,10 @@ use Rattle.laws.specs.order.Demand.{demand-sound}
 use Rattle.table.specs.Image.{Image, imageSize, view, imageOf}
 use Rattle.table.specs.Shape.{fresh-view}
 use Rattle.table.specs.Written.{sound-fits, image-length, image-view, view-image, one-image}
-use Rattle.port.specs.Step.{plainly, outcomeOf, serveOf, bytesAfter, Gives}
+use Rattle.port.specs.Step.{said, plainly, outcomeOf, serveOf, bytesAfter, Gives}
 use Rattle.port.specs.Ways.{rules-sound, step-wrong, step-right, step-unsound, step-sound, serve-right}
 use Rattle.laws.specs.numbers.Tape.{BoundedIn}
-use Rattle.port.specs.Reads.{PortCall, readingOf, madeIn, madeBy, madeByAll}
+use Rattle.port.specs.Reads.{PortCall, readingOf, ruleOf, madeIn, madeBy, madeByAll}
 use Rattle.port.specs.ByteTheorem.{Called, byStep, byServe, Calls, none, more, AsRules, Follows, FromSound, FromFresh, NoImage, Fifteen, FifteenExactly}
 
 -- ---- a reading on a sound table
@@ -65,18 +64,18 @@ bytes-image t o kept = go (changes (o .answer)) refl
 
 module _ {t : Table} (s : Sound t) (p : PortCall) where
   abbrev rule : Outcome
-  rule = portStep (p .kind) (p .a) (p .b) (p .c) t
+  rule = ruleOf p t
 
   -- The rules do as they do without the test.
   rule-plainly : rule ≡ plainly (readingOf p) t
-  rule-plainly = rules-sound (p .kind) (p .a) (p .b) (p .c) t (sound-tested s)
+  rule-plainly = rules-sound (p .kind) (p .a) (p .b) (p .c) (p .d) (p .e) (p .f) t (sound-tested s)
 
-  by-step : outcomeOf (p .kind) (p .a) (p .b) (p .c) (imageOf t) ≡ rule
-  by-step = step-right (p .kind) (p .a) (p .b) (p .c) (imageOf t) (image-length (sound-fits s)) ∙ ap (portStep (p .kind) (p .a) (p .b) (p .c)) (image-view (sound-fits s))
+  by-step : outcomeOf (p .kind) (p .a) (p .b) (p .c) (p .d) (p .e) (p .f) (imageOf t) ≡ rule
+  by-step = step-right (p .kind) (p .a) (p .b) (p .c) (p .d) (p .e) (p .f) (imageOf t) (image-length (sound-fits s)) ∙ ap (ruleOf p) (image-view (sound-fits s))
 
-  by-serve : serveOf (p .kind) (p .a) (p .b) (p .c) (imageOf t) ≡ rule
+  by-serve : serveOf (p .kind) (p .a) (p .b) (p .c) (p .d) (p .e) (p .f) (imageOf t) ≡ rule
   by-serve =
-      serve-right (p .kind) (p .a) (p .b) (p .c) (imageOf t) (image-length (sound-fits s))
+      serve-right (p .kind) (p .a) (p .b) (p .c) (p .d) (p .e) (p .f) (imageOf t) (image-length (sound-fits s))
       ∙ ap (plainly (readingOf p)) (image-view (sound-fits s))
       ∙ sym rule-plainly
 
@@ -141,7 +140,7 @@ along {n = n} {t = t} (more {p} {ps} {x} {v} {m = m} c cs) s e =
 pub some-calls : (ps : List PortCall) (l : List ℕ) → (n : List ℕ) × Calls ps l n
 some-calls [] l = (l, none)
 some-calls (p ∷ ps) l =
-    let (n, rest) = some-calls ps (bytesAfter (outcomeOf (p .kind) (p .a) (p .b) (p .c) l) l) in
+    let (n, rest) = some-calls ps (bytesAfter (outcomeOf (p .kind) (p .a) (p .b) (p .c) (p .d) (p .e) (p .f) l) l) in
     (n, more (byStep (record { answer = refl; runs = refl; bytes = refl })) rest)
 
 -- From the image of any sound table.
@@ -159,9 +158,9 @@ from-fresh ps l calls = along calls fresh-sound (one-image fresh-sound (replicat
 
 -- ---- 15
 
-module _ (kind a b c : ℕ) (l : List ℕ) (bytes : Bytes l) {x v : ℕ} {m : List ℕ} (g : Gives (outcomeOf kind a b c l) l x v m) where
+module _ (kind a b c d e f : ℕ) (l : List ℕ) (bytes : Bytes l) {x v : ℕ} {m : List ℕ} (g : Gives (outcomeOf kind a b c d e f l) l x v m) where
   -- Where the outcome is that of a table that is not sound.
-  refused : outcomeOf kind a b c l ≡ unsound (view l) → NoImage l → Fifteen l x v m
+  refused : outcomeOf kind a b c d e f l ≡ unsound (view l) → NoImage l → Fifteen l x v m
   unfolding bytesAfter
   refused e h =
       record {
@@ -172,17 +171,17 @@ module _ (kind a b c : ℕ) (l : List ℕ) (bytes : Bytes l) {x v : ℕ} {m : Li
 
   -- Where the bytes are the image of a sound table.
   taken : Image l → isSound (view l) ≡ true → Fifteen l x v m
-  taken h e = record { exactly = ((λ z. absurd (small z)), (λ h. absurd (is h))); none = λ z. absurd (small z); bytes = λ z. absurd (small z) }
+  taken h tested = record { exactly = ((λ z. absurd (small z)), (λ h. absurd (is h))); none = λ z. absurd (small z); bytes = λ z. absurd (small z) }
     where
       small : x ≡ notSound → ⊥
-      small z = omega (arith, g .answer, ap (λ (o : Outcome). o .answer) (step-sound kind a b c l h e), plainly-small (reading kind (a ∷ b ∷ c ∷ [])) (view l), z)
+      small z = omega (arith, g .answer, ap (λ (o : Outcome). o .answer) (step-sound kind a b c d e f l h tested), plainly-small (said kind a b c d e f) (view l), z)
 
       is : NoImage l → ⊥
       is (inl wrong) = wrong h
-      is (inr other) = other (view l) (tested-sound (view l) e) (sym (view-image l h bytes))
+      is (inr other) = other (view l) (tested-sound (view l) tested) (sym (view-image l h bytes))
 
   by-length : Dec (Image l) → Fifteen l x v m
-  by-length (no h) = refused (step-wrong kind a b c l h) (inl h)
+  by-length (no h) = refused (step-wrong kind a b c d e f l h) (inl h)
   by-length (yes h) = go (isSound (view l)) refl
     where
       -- The image of a sound table would have been found sound.
@@ -190,9 +189,9 @@ module _ (kind a b c : ℕ) (l : List ℕ) (bytes : Bytes l) {x v : ℕ} {m : Li
       none-sound e t s z = let shown : view l ≡ t = ap view z ∙ image-view (sound-fits s) in true≢false (sym (sound-tested s) ∙ ap isSound (sym shown) ∙ e)
 
       go : (y : Bool) → isSound (view l) ≡ y → Fifteen l x v m
-      go true e = taken h e
-      go false e = refused (step-unsound kind a b c l h e) (inr (none-sound e))
+      go true tested = taken h tested
+      go false tested = refused (step-unsound kind a b c d e f l h tested) (inr (none-sound tested))
 
 -- ntk_step, of any bytes.
 pub fifteen : FifteenExactly
-fifteen kind a b c l bytes x v m g = by-length kind a b c l bytes g (ℕ-discrete (length l) imageSize)
+fifteen kind a b c d e f l bytes x v m g = by-length kind a b c d e f l bytes g (ℕ-discrete (length l) imageSize)

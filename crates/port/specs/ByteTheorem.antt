@@ -17,7 +17,6 @@ use lib.ListN.{length, replicate}
 use Rattle.rules.specs.Sizes.{notSound}
 use Rattle.rules.specs.Table.{Table, freshTable}
 use Rattle.rules.specs.Sound.{Sound}
-use Rattle.rules.specs.Port.{portStep}
 use Rattle.rules.specs.Tape.{Bytes}
 use Rattle.rules.specs.declared.Call.{Call}
 use Rattle.rules.specs.declared.Reading.the-variants.{Says, Unknown}
@@ -25,15 +24,15 @@ use Rattle.laws.specs.order.Order.{run, OrderKept}
 use Rattle.laws.specs.order.Demand.{Demand3}
 use Rattle.table.specs.Image.{imageSize, view, imageOf}
 use Rattle.port.specs.Step.{outcomeOf, serveOf, Stepped, ServedPlainly}
-use Rattle.port.specs.Reads.{PortCall, readingOf, madeByAll}
+use Rattle.port.specs.Reads.{PortCall, readingOf, ruleOf, madeByAll}
 
 -- ---- calls from C
 
 -- What C sees of a call p on the bytes l: the answer x, the task v to run, and the bytes m afterwards. They are what one of the two functions
 -- promises (src/lib.rt).
 pub data Called (p : PortCall) (l : List ℕ) (x v : ℕ) (m : List ℕ) : Type 0 where
-  byStep : Stepped (p .kind) (p .a) (p .b) (p .c) l x v m → Called p l x v m
-  byServe : ServedPlainly (p .kind) (p .a) (p .b) (p .c) l x v m → Called p l x v m
+  byStep : Stepped (p .kind) (p .a) (p .b) (p .c) (p .d) (p .e) (p .f) l x v m → Called p l x v m
+  byServe : ServedPlainly (p .kind) (p .a) (p .b) (p .c) (p .d) (p .e) (p .f) l x v m → Called p l x v m
 
 -- Any number of calls one after another, in any mixture of the two functions, from the bytes l to the bytes n.
 pub data Calls : List PortCall → List ℕ → List ℕ → Type 0 where
@@ -45,9 +44,9 @@ pub data Calls : List PortCall → List ℕ → List ℕ → Type 0 where
 -- A call p on the image l of the table t, whichever of the two functions takes it:
 pub record AsRules (p : PortCall) (t : Table) (l : List ℕ) (x v : ℕ) (m : List ℕ) : Type 0 where
   -- the answer, the task to run and the table in the bytes are those of the rules;
-  pub answer : x ≡ portStep (p .kind) (p .a) (p .b) (p .c) t .answer
-  pub runs : v ≡ portStep (p .kind) (p .a) (p .b) (p .c) t .runs
-  pub bytes : m ≡ imageOf (portStep (p .kind) (p .a) (p .b) (p .c) t .table)
+  pub answer : x ≡ ruleOf p t .answer
+  pub runs : v ≡ ruleOf p t .runs
+  pub bytes : m ≡ imageOf (ruleOf p t .table)
   -- it is not answered 15;
   pub taken : x ≢ notSound
   -- a call of the list keeps the order of two tasks that stay in one queue, as demand 3 has it;
@@ -66,7 +65,7 @@ pub record Follows (t : Table) (l : List ℕ) : Type 0 where
   -- any call on them is answered so;
   pub calls : (p : PortCall) {x v : ℕ} {m : List ℕ} → Called p l x v m → AsRules p t l x v m
   -- and `ntk_serve` gives what `ntk_step` gives.
-  pub same : (p : PortCall) → serveOf (p .kind) (p .a) (p .b) (p .c) l ≡ outcomeOf (p .kind) (p .a) (p .b) (p .c) l
+  pub same : (p : PortCall) → serveOf (p .kind) (p .a) (p .b) (p .c) (p .d) (p .e) (p .f) l ≡ outcomeOf (p .kind) (p .a) (p .b) (p .c) (p .d) (p .e) (p .f) l
 
 -- From the image of any sound table, after any calls: the bytes follow the table that the rules' `run` makes of the calls read. (A kind
 -- that the list lacks is no call of the rules.)
@@ -92,4 +91,4 @@ pub record Fifteen (l : List ℕ) (x v : ℕ) (m : List ℕ) : Type 0 where
 -- So `ntk_step` does, whatever the kind, those that the list lacks among them, and whatever the numbers. (`Bytes l` says that each number of
 -- l is below 256.)
 abbrev pub FifteenExactly : Type 0
-FifteenExactly = (kind a b c : ℕ) (l : List ℕ) → Bytes l → (x v : ℕ) (m : List ℕ) → Stepped kind a b c l x v m → Fifteen l x v m
+FifteenExactly = (kind a b c d e f : ℕ) (l : List ℕ) → Bytes l → (x v : ℕ) (m : List ℕ) → Stepped kind a b c d e f l x v m → Fifteen l x v m

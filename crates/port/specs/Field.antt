@@ -4,11 +4,12 @@ use mathlib.Core.List.{List, [], _∷_, _++_}
 use Prim.Native.Nat.{ℕ, _*_, _/_, _%_}
 use lib.Dec.{eqb, ltb}
 use lib.ListN.{length, getD}
-use Rattle.rules.specs.Sizes.{taskCount, semaphoreCount, mutexCount}
-use Rattle.rules.specs.Table.{Table, taskOf, semaphoreOf, mutexOf, queueOf, queueCount}
+use Rattle.rules.specs.Sizes.{taskCount, semaphoreCount, mutexCount, groupCount}
+use Rattle.rules.specs.Table.{Table, taskOf, semaphoreOf, mutexOf, groupOf, queueOf, queueCount}
 use Rattle.rules.specs.declared.Task.{Task}
 use Rattle.rules.specs.declared.Semaphore.{Semaphore}
 use Rattle.rules.specs.declared.Mutex.{Mutex}
+use Rattle.rules.specs.declared.Group.{Group}
 use Rattle.table.specs.Image.{imageSize, view}
 
 -- What no field shows: a field has 32 bits. It is the greatest number of 64 bits.
@@ -32,6 +33,9 @@ ofSemaphore code part = record { code = code; count = semaphoreCount; shows = λ
 abbrev pub ofMutex : ℕ → (Mutex → ℕ) → Field
 ofMutex code part = record { code = code; count = mutexCount; shows = λ t i. part (mutexOf t i) }
 
+abbrev pub ofGroup : ℕ → (Group → ℕ) → Field
+ofGroup code part = record { code = code; count = groupCount; shows = λ t i. part (groupOf t i) }
+
 -- Slot j of queue q has the number 32 q + j.
 abbrev pub slots : ℕ → Field
 slots code = record { code = code; count = queueCount * taskCount; shows = λ t i. getD (queueOf t (i / taskCount)) (i % taskCount) 0 }
@@ -53,6 +57,9 @@ taskFields =
     ∷ ofTask 0x08 (λ k. k .marked)
     ∷ ofTask 0x09 (λ k. k .due)
     ∷ ofTask 0x0A (λ k. k .outcome)
+    ∷ ofTask 0x0B (λ k. k .mask)
+    ∷ ofTask 0x0C (λ k. k .test)
+    ∷ ofTask 0x0D (λ k. k .consume)
     ∷ []
 
 abbrev pub objectFields : List Field
@@ -64,6 +71,9 @@ objectFields =
     ∷ ofMutex 0x22 (λ x. x .nesting)
     ∷ []
 
+abbrev pub groupFields : List Field
+groupFields = ofGroup 0x30 (λ x. x .used) ∷ ofGroup 0x31 (λ x. x .flags) ∷ []
+
 abbrev pub queueFields : List Field
 queueFields = slots 0xE0 ∷ []
 
@@ -71,7 +81,7 @@ abbrev pub singleFields : List Field
 singleFields = single 0xF0 (λ t. t .tick) ∷ single 0xF1 (λ t. t .depth) ∷ single 0xF2 (λ t. t .running) ∷ []
 
 abbrev pub fields : List Field
-fields = taskFields ++ (objectFields ++ (queueFields ++ singleFields))
+fields = taskFields ++ (objectFields ++ (groupFields ++ (queueFields ++ singleFields)))
 
 -- ---- what is read
 

@@ -8,11 +8,12 @@ use native.Mathlib.Omega.{arith}
 use lib.Dec.{eqb, ltb}
 use lib.ListN.{length}
 use borrow.Author.Tests.{eq-eqb, ne-eqb, le-ltb, ltb-true, leb-true}
-use Rattle.rules.specs.Table.{Table}
+use Rattle.rules.specs.Sizes.{taskCount}
+use Rattle.rules.specs.Table.{Table, queueCount}
 use Rattle.rules.specs.Tape.{Bytes}
 use Rattle.table.specs.Image.{Image, imageSize, view}
 use Rattle.table.specs.Written.{Fits, view-fits}
-use Rattle.port.specs.Field.{noField, Field, taskFields, objectFields, queueFields, singleFields, fields, shownIn, fieldOf, readOf, knownIn, known}
+use Rattle.port.specs.Field.{noField, Field, taskFields, objectFields, groupFields, queueFields, singleFields, fields, shownIn, fieldOf, readOf, knownIn, known}
 
 -- So it is of each field of the list.
 pub data Each (P : Field → Type 0) : List Field → Type 0 where
@@ -61,8 +62,11 @@ all-above a h (with {r} d e) = with {r = r} (λ z. omega (arith, h, d, z)) (all-
 abbrev fromQueues : List Field
 fromQueues = queueFields ++ singleFields
 
+abbrev fromGroups : List Field
+fromGroups = groupFields ++ fromQueues
+
 abbrev fromObjects : List Field
-fromObjects = objectFields ++ fromQueues
+fromObjects = objectFields ++ fromGroups
 
 module _ (f i : ℕ) (l : List ℕ) where
   pub read-wrong : (Image l → ⊥) → readOf f i l ≡ noField
@@ -76,21 +80,27 @@ module _ (f i : ℕ) (l : List ℕ) where
   pub read-task : Image l → f < 0x10 → readOf f i l ≡ shownIn taskFields f i (view l)
   read-task h p = read-right h ∙ shown-before f i (view l) taskFields fromObjects (all-above 0x10 p (search (end, with, leb-true) depth 40))
 
-  -- Past the tasks, the objects and the queues.
+  -- Past the tasks, the objects and the groups.
   past-tasks : Image l → 0x10 ≤ f → readOf f i l ≡ shownIn fromObjects f i (view l)
   past-tasks h o = read-right h ∙ shown-behind f i (view l) taskFields fromObjects (all-below 0x10 o (search (end, with, ltb-true) depth 40))
 
-  past-objects : Image l → 0x30 ≤ f → readOf f i l ≡ shownIn fromQueues f i (view l)
-  past-objects h o = past-tasks h (omega arith) ∙ shown-behind f i (view l) objectFields fromQueues (all-below 0x30 o (search (end, with, ltb-true) depth 40))
+  past-objects : Image l → 0x30 ≤ f → readOf f i l ≡ shownIn fromGroups f i (view l)
+  past-objects h o = past-tasks h (omega arith) ∙ shown-behind f i (view l) objectFields fromGroups (all-below 0x30 o (search (end, with, ltb-true) depth 40))
+
+  past-groups : Image l → 0x40 ≤ f → readOf f i l ≡ shownIn fromQueues f i (view l)
+  past-groups h o = past-objects h (omega arith) ∙ shown-behind f i (view l) groupFields fromQueues (all-below 0x40 o (search (end, with, ltb-true) depth 40))
 
   pub read-object : Image l → 0x10 ≤ f → f < 0x30 → readOf f i l ≡ shownIn objectFields f i (view l)
-  read-object h o p = past-tasks h o ∙ shown-before f i (view l) objectFields fromQueues (all-above 0x30 p (search (end, with, leb-true) depth 40))
+  read-object h o p = past-tasks h o ∙ shown-before f i (view l) objectFields fromGroups (all-above 0x30 p (search (end, with, leb-true) depth 40))
 
-  pub read-slot : Image l → 0x30 ≤ f → f < 0xF0 → readOf f i l ≡ shownIn queueFields f i (view l)
-  read-slot h o p = past-objects h o ∙ shown-before f i (view l) queueFields singleFields (all-above 0xF0 p (search (end, with, leb-true) depth 40))
+  pub read-group : Image l → 0x30 ≤ f → f < 0x40 → readOf f i l ≡ shownIn groupFields f i (view l)
+  read-group h o p = past-objects h o ∙ shown-before f i (view l) groupFields fromQueues (all-above 0x40 p (search (end, with, leb-true) depth 40))
+
+  pub read-slot : Image l → 0x40 ≤ f → f < 0xF0 → readOf f i l ≡ shownIn queueFields f i (view l)
+  read-slot h o p = past-groups h o ∙ shown-before f i (view l) queueFields singleFields (all-above 0xF0 p (search (end, with, leb-true) depth 40))
 
   pub read-single : Image l → 0xF0 ≤ f → readOf f i l ≡ shownIn singleFields f i (view l)
-  read-single h o = past-objects h (omega arith) ∙ shown-behind f i (view l) queueFields singleFields (all-below 0xF0 o (search (end, with, ltb-true) depth 40))
+  read-single h o = past-groups h (omega arith) ∙ shown-behind f i (view l) queueFields singleFields (all-below 0xF0 o (search (end, with, ltb-true) depth 40))
 
 -- ---- `noField` is no field's number
 
@@ -132,68 +142,40 @@ listed-each : (P : Field → Type 0) (l : List Field) → Listed P l → Each P 
 listed-each P [] e = end
 listed-each P (r ∷ rs) (d, e) = with {r = r} d (listed-each P rs e)
 
+-- Pairs one within another, written in a row.
+infixr 20 _and_
+_and_ : {A B : Type 0} → A → B → A × B
+_and_ a b = (a, b)
+
 all-small : (t : Table) → Fits t → Each (Small t) fields
 all-small t s =
     listed-each (Small t) fields (
-      (λ i h. omega (arith, s .tasks i h)),
-      (
-        (λ i h. omega (arith, s .tasks i h)),
-        (
-          (λ i h. omega (arith, s .tasks i h)),
-          (
-            (λ i h. omega (arith, s .tasks i h)),
-            (
-              (λ i h. omega (arith, s .tasks i h)),
-              (
-                (λ i h. omega (arith, s .tasks i h)),
-                (
-                  (λ i h. omega (arith, s .tasks i h)),
-                  (
-                    (λ i h. omega (arith, s .tasks i h)),
-                    (
-                      (λ i h. omega (arith, s .tasks i h)),
-                      (
-                        (λ i h. omega (arith, s .tasks i h)),
-                        (
-                          (λ i h. omega (arith, s .tasks i h)),
-                          (
-                            (λ i h. omega (arith, s .semaphores i h)),
-                            (
-                              (λ i h. omega (arith, s .semaphores i h)),
-                              (
-                                (λ i h. omega (arith, s .mutexes i h)),
-                                (
-                                  (λ i h. omega (arith, s .mutexes i h)),
-                                  (
-                                    (λ i h. omega (arith, s .mutexes i h)),
-                                    (
-                                      (λ i h. let q : i / 32 < 33 = omega (arith, h) in omega (arith, s .queues (i / 32) q (i % 32))),
-                                      (
-                                        (λ i h. omega (arith, s .tick)),
-                                        (
-                                          (λ i h. omega (arith, s .depth)),
-                                          (
-                                            (λ i h. omega (arith, s .running)),
-                                            tt,
-                                          ),
-                                        ),
-                                      ),
-                                    ),
-                                  ),
-                                ),
-                              ),
-                            ),
-                          ),
-                        ),
-                      ),
-                    ),
-                  ),
-                ),
-              ),
-            ),
-          ),
-        ),
-      ),
+    (λ i h. omega (arith, s .tasks i h))
+    and (λ i h. omega (arith, s .tasks i h))
+    and (λ i h. omega (arith, s .tasks i h))
+    and (λ i h. omega (arith, s .tasks i h))
+    and (λ i h. omega (arith, s .tasks i h))
+    and (λ i h. omega (arith, s .tasks i h))
+    and (λ i h. omega (arith, s .tasks i h))
+    and (λ i h. omega (arith, s .tasks i h))
+    and (λ i h. omega (arith, s .tasks i h))
+    and (λ i h. omega (arith, s .tasks i h))
+    and (λ i h. omega (arith, s .tasks i h))
+    and (λ i h. omega (arith, s .tasks i h))
+    and (λ i h. omega (arith, s .tasks i h))
+    and (λ i h. omega (arith, s .tasks i h))
+    and (λ i h. omega (arith, s .semaphores i h))
+    and (λ i h. omega (arith, s .semaphores i h))
+    and (λ i h. omega (arith, s .mutexes i h))
+    and (λ i h. omega (arith, s .mutexes i h))
+    and (λ i h. omega (arith, s .mutexes i h))
+    and (λ i h. omega (arith, s .groups i h))
+    and (λ i h. omega (arith, s .groups i h))
+    and (λ i h. let q : i / taskCount < queueCount = omega (arith, h) in omega (arith, s .queues (i / taskCount) q (i % taskCount)))
+    and (λ i h. omega (arith, s .tick))
+    and (λ i h. omega (arith, s .depth))
+    and (λ i h. omega (arith, s .running))
+    and tt
     )
 
 pub known-small : (f i : ℕ) (l : List ℕ) → Image l → Bytes l → known f i ≡ true → readOf f i l < 4294967296

@@ -18,17 +18,21 @@ use Rattle.table.specs.Image.{imageSize, view, imageOf}
 unfoldable pub sized : (Table → Outcome) → List ℕ → Outcome
 sized rule l = let o = rule (view l) in cond (eqb (length l) imageSize) o (unsound (view l))
 
-unfoldable pub outcomeOf : ℕ → (a b c : ℕ) → List ℕ → Outcome
-outcomeOf kind a b c l = sized (portStep kind a b c) l
+unfoldable pub outcomeOf : (kind a b c d e f : ℕ) → List ℕ → Outcome
+outcomeOf kind a b c d e f l = sized (portStep kind a b c d e f) l
 
 -- ---- the same without the test of the table
+
+-- What a kind says with its numbers.
+abbrev pub said : (kind a b c d e f : ℕ) → Reading
+said kind a b c d e f = reading kind (a ∷ b ∷ c ∷ d ∷ e ∷ f ∷ [])
 
 unfoldable pub plainly : Reading → Table → Outcome
 plainly (Says c interrupt) t = serve c interrupt t
 plainly (Unknown interrupt) t = record { answer = cond interrupt byInterrupt beyondRange; table = t; runs = t .running }
 
-unfoldable pub serveOf : ℕ → (a b c : ℕ) → List ℕ → Outcome
-serveOf kind a b c l = sized (plainly (reading kind (a ∷ b ∷ c ∷ []))) l
+unfoldable pub serveOf : (kind a b c d e f : ℕ) → List ℕ → Outcome
+serveOf kind a b c d e f l = sized (plainly (said kind a b c d e f)) l
 
 -- ---- the bytes at exit
 
@@ -42,11 +46,11 @@ pub record Gives (o : Outcome) (l : List ℕ) (x v : ℕ) (m : List ℕ) : Type 
   pub runs : v ≡ o .runs
   pub bytes : m ≡ bytesAfter o l
 
-abbrev pub Stepped : (kind a b c : ℕ) (l : List ℕ) (answer runs : ℕ) (m : List ℕ) → Type 0
-Stepped kind a b c l = Gives (outcomeOf kind a b c l) l
+abbrev pub Stepped : (kind a b c d e f : ℕ) (l : List ℕ) (answer runs : ℕ) (m : List ℕ) → Type 0
+Stepped kind a b c d e f l = Gives (outcomeOf kind a b c d e f l) l
 
-abbrev pub ServedPlainly : (kind a b c : ℕ) (l : List ℕ) (answer runs : ℕ) (m : List ℕ) → Type 0
-ServedPlainly kind a b c l = Gives (serveOf kind a b c l) l
+abbrev pub ServedPlainly : (kind a b c d e f : ℕ) (l : List ℕ) (answer runs : ℕ) (m : List ℕ) → Type 0
+ServedPlainly kind a b c d e f l = Gives (serveOf kind a b c d e f l) l
 
 -- No two results meet the promise for one input: neither of `ntk_step` nor of `ntk_serve`.
 pub determined : {o : Outcome} {l : List ℕ} {x y v w : ℕ} {m n : List ℕ} → Gives o l x v m → Gives o l y w n → (x ≡ y) × (v ≡ w) × (m ≡ n)

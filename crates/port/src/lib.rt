@@ -1,11 +1,9 @@
-// The steps that the C port calls: a kind, three numbers and the table's byte image. Every input is taken.
+// The steps that the C port calls: a kind, six numbers and the table's byte image. Every input is taken.
 ghost use mathlib.Core.Path.{_≡_};
 ghost use mathlib.Core.Bool.{cond};
-ghost use mathlib.Core.List.{[], _∷_};
 ghost use Rattle.rules.specs.Sizes.{byInterrupt, beyondRange, notSound};
-ghost use Rattle.rules.specs.Kinds.{reading};
 ghost use Rattle.table.specs.Image.{Image, view};
-ghost use Rattle.port.specs.Step.{plainly, Gives, Stepped, ServedPlainly};
+ghost use Rattle.port.specs.Step.{said, plainly, Gives, Stepped, ServedPlainly};
 
 pub mod read;
 
@@ -42,11 +40,11 @@ fn unknown_kind(interrupt: bool) -> u8
     5
 }
 
-// A call with up to six numbers, on an image whose table is taken to be sound. The numbers are not one array, and the task to run is left in
-// the image: either would go through memory.
+// A call on an image whose table is taken to be sound. The numbers are not one array, and the task to run is left in the image: either would
+// go through memory.
 fn serve_plainly(kind: u8, a: u32, b: u32, c: u32, d: u32, e: u32, f: u32, image: &mut [u8]) -> u8
     requires { ⌜ Image (now image) ⌝ }
-    ensures { λ r. ⌜ Gives (plainly (reading kind (a ∷ b ∷ c ∷ d ∷ e ∷ f ∷ [])) (view (now (image .entry)))) (now (image .entry)) r (view (now (image .exit)) .running) (now (image .exit)) ⌝ }
+    ensures { λ r. ⌜ Gives (plainly (said kind a b c d e f) (view (now (image .entry)))) (now (image .entry)) r (view (now (image .exit)) .running) (now (image .exit)) ⌝ }
 {
     let reading = kinds::reading_of(kind, [a, b, c, d, e, f]);
     match reading {
@@ -66,8 +64,17 @@ fn answered(answer: u8, image: &[u8]) -> NtkOutcome
 
 // A call on any bytes.
 #[no_mangle]
-pub extern "C" fn ntk_step(kind: u8, a: u32, b: u32, c: u32, image: &mut [u8]) -> NtkOutcome
-    ensures { λ r. ⌜ Stepped kind a b c (now (image .entry)) (r .answer) (r .runs) (now (image .exit)) ⌝ }
+pub extern "C" fn ntk_step(
+    kind: u8,
+    a: u32,
+    b: u32,
+    c: u32,
+    d: u32,
+    e: u32,
+    f: u32,
+    image: &mut [u8],
+) -> NtkOutcome
+    ensures { λ r. ⌜ Stepped kind a b c d e f (now (image .entry)) (r .answer) (r .runs) (now (image .exit)) ⌝ }
 {
     if image.len() != table::layout::IMAGE_SIZE {
         return not_sound();
@@ -75,18 +82,27 @@ pub extern "C" fn ntk_step(kind: u8, a: u32, b: u32, c: u32, image: &mut [u8]) -
     if !sound::is_sound(image) {
         return not_sound();
     }
-    let n = serve_plainly(kind, a, b, c, 0, 0, 0, image);
+    let n = serve_plainly(kind, a, b, c, d, e, f, image);
     answered(n, image)
 }
 
 // The same without the test of the table: for an image that this library alone has changed since it was zeroed.
 #[no_mangle]
-pub extern "C" fn ntk_serve(kind: u8, a: u32, b: u32, c: u32, image: &mut [u8]) -> NtkOutcome
-    ensures { λ r. ⌜ ServedPlainly kind a b c (now (image .entry)) (r .answer) (r .runs) (now (image .exit)) ⌝ }
+pub extern "C" fn ntk_serve(
+    kind: u8,
+    a: u32,
+    b: u32,
+    c: u32,
+    d: u32,
+    e: u32,
+    f: u32,
+    image: &mut [u8],
+) -> NtkOutcome
+    ensures { λ r. ⌜ ServedPlainly kind a b c d e f (now (image .entry)) (r .answer) (r .runs) (now (image .exit)) ⌝ }
 {
     if image.len() != table::layout::IMAGE_SIZE {
         return not_sound();
     }
-    let n = serve_plainly(kind, a, b, c, 0, 0, 0, image);
+    let n = serve_plainly(kind, a, b, c, d, e, f, image);
     answered(n, image)
 }

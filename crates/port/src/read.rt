@@ -1,13 +1,13 @@
 // Reading a field of the table, for the port, a debugger and the port's tests. Every input is taken.
 ghost use mathlib.Core.Path.{_≡_};
 ghost use Rattle.table.specs.Image.{Image, view};
-ghost use Rattle.port.specs.Field.{shownIn, taskFields, objectFields, queueFields, singleFields, readOf};
+ghost use Rattle.port.specs.Field.{shownIn, taskFields, objectFields, groupFields, queueFields, singleFields, readOf};
 
 // What no field shows.
 pub const NO_FIELD: u64 = 18446744073709551615;
 
 // The slots of all queues.
-const SLOTS: u32 = 33 * 32;
+const SLOTS: u32 = 41 * 32;
 
 fn task_field(field: u32, number: u32, s: &[u8]) -> u64
     requires { ⌜ Image (now s) ⌝ }
@@ -29,6 +29,9 @@ fn task_field(field: u32, number: u32, s: &[u8]) -> u64
         0x08 => table::tasks::get_marked(s, i) as u64,
         0x09 => table::tasks::get_due(s, i) as u64,
         0x0A => table::tasks::get_outcome(s, i) as u64,
+        0x0B => table::tasks::get_mask(s, i) as u64,
+        0x0C => table::tasks::get_test(s, i) as u64,
+        0x0D => table::tasks::get_consume(s, i) as u64,
         _ => NO_FIELD,
     }
 }
@@ -47,6 +50,21 @@ fn object_field(field: u32, number: u32, s: &[u8]) -> u64
         0x20 => table::mutexes::get_used(s, i) as u64,
         0x21 => table::mutexes::get_holder(s, i) as u64,
         0x22 => table::mutexes::get_nesting(s, i) as u64,
+        _ => NO_FIELD,
+    }
+}
+
+fn group_field(field: u32, number: u32, s: &[u8]) -> u64
+    requires { ⌜ Image (now s) ⌝ }
+    ensures { λ r. ⌜ r ≡ shownIn groupFields field number (view (now (s .entry))) ⌝ }
+{
+    if 8 <= number {
+        return NO_FIELD;
+    }
+    let i = number as usize;
+    match field {
+        0x30 => table::groups::get_used(s, i) as u64,
+        0x31 => table::groups::get_flags(s, i) as u64,
         _ => NO_FIELD,
     }
 }
@@ -94,6 +112,9 @@ pub extern "C" fn ntk_read(field: u32, number: u32, image: &[u8]) -> u64
     }
     if field < 0x30 {
         return object_field(field, number, image);
+    }
+    if field < 0x40 {
+        return group_field(field, number, image);
     }
     if field < 0xF0 {
         return slot_field(field, number, image);

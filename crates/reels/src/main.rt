@@ -74,6 +74,16 @@ fn proved_cases(start: Output) -> Output {
         b"\x01\x01\x05\x02\x00\x01\x02\x05\x01\x00\x0b\x0b\x0b",
     );
     output = reel(output, b"P10, a tick on the fresh table\n", b"\x0b");
+    output = reel(
+        output,
+        b"event flags, the clock and then the card\n",
+        b"\x01\x01\x05\x00\x00\x30\x00\x00\x00\x00\x00\x32\x00\x01\x00\x00\x00\x00\x03\x00\x00\x00\x00\x01\xb3\x00\x02\x00\x00\x00\x01\xb3\x00\x01\x00\x00\x00\x01\x32\x00\x00\x00\x00\x00\x00\x03\x00\x00\x00\x02\x00",
+    );
+    output = reel(
+        output,
+        b"event flags, the card and then the clock\n",
+        b"\x01\x01\x05\x00\x00\x30\x00\x00\x00\x00\x00\x32\x00\x01\x00\x00\x00\x00\x03\x00\x00\x00\x00\x01\xb3\x00\x01\x00\x00\x00\x01\xb3\x00\x02\x00\x00\x00\x01\x32\x00\x00\x00\x00\x00\x00\x03\x00\x00\x00\x02\x00",
+    );
     output
 }
 
@@ -145,13 +155,13 @@ fn nested(output: Output) -> Output {
     reel(output, b"P7, 250 nested waits\n", &tape)
 }
 
-// A kind with 0 to 6 bytes behind it, all zero: cut, whole, or whole and then a kind 0, which the list lacks.
+// A kind with 0 to 12 bytes behind it, all zero: cut, whole, or whole and then a kind 0, which the list lacks.
 fn each_length(output: Output, kind: u8) -> Output {
-    let mut tape = [0u8; 7];
+    let mut tape = [0u8; 13];
     tape[0] = kind;
     let mut printed = output;
     let mut n = 1;
-    while n <= 7 {
+    while n <= 13 {
         printed = play(printed, &tape[0..n]);
         n += 1;
     }

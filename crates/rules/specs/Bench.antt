@@ -1,4 +1,4 @@
--- "Loops on the bench": P1 to P10, each computed from the rules with the paper's numbers, as one statement.
+-- "Loops on the bench": P1 to P10, and the shop floor's case of each request, computed from the rules with the paper's numbers, as one statement.
 use mathlib.Core.Path.{_≡_, refl}
 use mathlib.Core.Bool.{true, false}
 use mathlib.Core.List.{List, [], _∷_, _++_}
@@ -6,12 +6,12 @@ use Prim.Native.Nat.{ℕ}
 use lib.ListN.{replicate}
 use Rattle.queue.specs.Slots.{firstAt, later, push, pull, opened, closed}
 use Rattle.queue.specs.Order.{count, mayPrecede, fits, isOrdered}
-use Rattle.rules.specs.Sound.{each, isShaped, marksIn, isTaskInRange, isNoTask, isNoSemaphore, isNoMutex, isSoundTask, isSoundSemaphore, isSoundMutex, mayWait, isSoundWait, eachOf, isSoundObjects, isSoundQueues, isWorkedOut, isSoundWithin, isSoundRuns, isSound}
+use Rattle.rules.specs.Sound.{each, isShaped, marksIn, isTaskInRange, isNoTask, isNoSemaphore, isNoMutex, isNoGroup, asksIn, isSoundTask, isSoundSemaphore, isSoundMutex, isSoundGroup, mayWait, isSoundWait, eachOf, isSoundObjects, isSoundQueues, isWorkedOut, isSoundWithin, isSoundRuns, isSound}
 use Rattle.rules.specs.Family.{ofState, placeOf}
 use Rattle.rules.specs.Sizes.{mostCount, delayed, plain, timedOut}
 use Rattle.rules.specs.Chain.{leads, smallest, fresh}
 use Rattle.rules.specs.Walk.{walkOn}
-use Rattle.rules.specs.Table.{Table, freshTable, taskOf, isAble, works, semaphoreQueue, firstIn, written, withTick, holderOf}
+use Rattle.rules.specs.Table.{Table, freshTable, taskOf, isAble, works, groupOf, semaphoreQueue, firstIn, written, withTick, holderOf}
 use Rattle.rules.specs.Move.{leave, join, stays, put, rotate, next, freshIn, ended, endedAll, chosen, peerBelow}
 use Rattle.rules.specs.Task.{createAnswer, create, suspendAnswer, suspend, resumeAnswer, resume}
 use Rattle.rules.specs.Time.{delayAnswer, delay}
@@ -20,12 +20,14 @@ use Rattle.rules.specs.Object.{objectCreateAnswer, blocked, waits, taken
 use Rattle.rules.specs.Semaphore as semaphore
 use Rattle.rules.specs.Mutex.{handed, released}
 use Rattle.rules.specs.Mutex as mutex
+use Rattle.rules.specs.Group.{meeting, isMet, consumed, woken}
+use Rattle.rules.specs.Group as group
 use Rattle.rules.specs.Tick.{turned, dueEnded, dueBelow, ticked}
-use Rattle.rules.specs.Step.{answerTo, changeBy, forInterrupts, answer, effect, serve, step}
+use Rattle.rules.specs.Step.{Outcome, answerTo, changeBy, forInterrupts, answer, effect, serve, step}
 use Rattle.rules.specs.Kinds.{toldIn, widths, ofKind, reading, spelled}
 use Rattle.rules.specs.Tape.{little, sum, numbers, bodyLength, callIn, decimal, runner, line, printedOf, printed, tape}
 use Rattle.rules.specs.declared.Call.{Call}
-use Rattle.rules.specs.declared.Call.the-variants.{TaskCreate, Suspend, Resume, Delay, Lock, Unlock, Tick, SemaphoreCreate, SemaphoreWait, SemaphorePost, MutexCreate, MutexWait, MutexPost}
+use Rattle.rules.specs.declared.Call.the-variants.{TaskCreate, Suspend, Resume, Delay, Lock, Unlock, Tick, SemaphoreCreate, SemaphoreWait, SemaphorePost, MutexCreate, MutexWait, MutexPost, GroupCreate, GroupWait, GroupPost}
 
 -- ---- calls that tasks make, one after another, on sound tables
 
@@ -100,6 +102,21 @@ p8-table = after freshTable (TaskCreate 1 5 0 ∷ Lock ∷ TaskCreate 2 4 0 ∷ 
 abbrev pub suspended-waiter : Table
 suspended-waiter = after freshTable (TaskCreate 2 9 0 ∷ SemaphoreCreate 0 0 ∷ TaskCreate 1 5 0 ∷ SemaphoreWait 0 1 0 ∷ Suspend 1 ∷ [])
 
+-- "The reader .. should wait for card and clock": task 1 waits for flags 0 and 1 of group 0, all set, and consumes them.
+abbrev pub reader-waits : Table
+reader-waits = after freshTable (TaskCreate 1 5 0 ∷ GroupCreate 0 0 ∷ GroupWait 0 1 0 3 0 1 ∷ [])
+
+-- Tasks 1 and 2 both wait for flag 0 of group 0, any set, and consume it.
+abbrev pub two-wait : Table
+two-wait = after freshTable (TaskCreate 1 5 0 ∷ GroupCreate 0 0 ∷ GroupWait 0 1 0 1 1 1 ∷ TaskCreate 2 9 0 ∷ GroupWait 0 1 0 1 1 1 ∷ [])
+
+-- The card's interrupt sets flag 0, the clock's flag 1.
+abbrev card : Table → Outcome
+card t = serve (GroupPost 0 1 1) true t
+
+abbrev clock : Table → Outcome
+clock t = serve (GroupPost 0 2 1) true t
+
 -- ---- the statement
 
 pub record Bench : Type 0 where
@@ -136,14 +153,20 @@ pub record Bench : Type 0 where
   -- P10. "Tick on the fresh table: 0, counter 1, none."
   pub p10 : (answers freshTable (Tick ∷ []) ≡ 0 ∷ []) × (after freshTable (Tick ∷ []) .tick ≡ 1) × (runs freshTable (Tick ∷ []) ≡ 0 ∷ [])
   -- Each of these tables is sound, so `serve` is what the kernel does there.
-  pub sound : (isSound p2-table ≡ true) × (isSound p3-table ≡ true) × (isSound p4-table ≡ true) × (isSound p5-table ≡ true) × (isSound p8-table ≡ true) × (isSound suspended-waiter ≡ true)
+  pub sound : (isSound p2-table ≡ true) × (isSound p3-table ≡ true) × (isSound p4-table ≡ true) × (isSound p5-table ≡ true) × (isSound p8-table ≡ true) × (isSound suspended-waiter ≡ true) × (isSound reader-waits ≡ true) × (isSound two-wait ≡ true)
   -- An easy slip that those ten do not show: "A suspended waiter dropped from its queue." It stays there and is given the semaphore,
   -- and is able once it is resumed.
   pub waits-on : firstIn (semaphoreQueue 0) suspended-waiter ≡ written 1
   pub is-given : (taskOf (after suspended-waiter (SemaphorePost 0 ∷ [])) 1 .state ≡ plain) × (runs suspended-waiter (SemaphorePost 0 ∷ Resume 1 ∷ []) ≡ written 2 ∷ written 1 ∷ [])
+  -- Event flags: after the first of the two interrupts nobody runs; after the second the reader runs, and both flags are clear.
+  pub reader-alone : reader-waits .running ≡ 0
+  pub clock-first : (clock reader-waits .answer ≡ 0) × (clock reader-waits .runs ≡ 0) × (card (clock reader-waits .table) .runs ≡ written 1) × (groupOf (card (clock reader-waits .table) .table) 0 .flags ≡ 0)
+  pub card-first : (card reader-waits .answer ≡ 0) × (card reader-waits .runs ≡ 0) × (clock (card reader-waits .table) .runs ≡ written 1) × (groupOf (clock (card reader-waits .table) .table) 0 .flags ≡ 0)
+  -- "against the flags as the post left them .. turned over together": both wake, and the flag is clear.
+  pub both-wake : (taskOf (card two-wait .table) 1 .state ≡ plain) × (taskOf (card two-wait .table) 2 .state ≡ plain) × (groupOf (card two-wait .table) 0 .flags ≡ 0)
 
 pub bench : Bench
-unfolding firstAt later push pull opened closed leads smallest fresh walkOn freshTable isAble placeOf works leave join stays put rotate holderOf next freshIn ended endedAll chosen peerBelow createAnswer create suspendAnswer suspend resumeAnswer resume delayAnswer delay lockAnswer lock unlockAnswer unlock objectCreateAnswer blocked waits taken semaphore.create semaphore.waitAnswer semaphore.wait semaphore.postAnswer semaphore.post mutex.create mutex.waitAnswer mutex.wait mutex.postAnswer handed released mutex.post turned dueEnded dueBelow ticked answerTo changeBy forInterrupts answer effect serve toldIn widths ofKind reading spelled little sum numbers bodyLength callIn decimal runner line printedOf printed tape step count mayPrecede fits isOrdered each isShaped marksIn isTaskInRange isNoTask isNoSemaphore isNoMutex isSoundTask isSoundSemaphore isSoundMutex mayWait ofState eachOf isSoundWait isSoundObjects isSoundQueues isWorkedOut isSoundWithin isSoundRuns isSound after answers runs
+unfolding firstAt later push pull opened closed leads smallest fresh walkOn freshTable isAble placeOf works leave join stays put rotate holderOf next freshIn ended endedAll chosen peerBelow createAnswer create suspendAnswer suspend resumeAnswer resume delayAnswer delay lockAnswer lock unlockAnswer unlock objectCreateAnswer blocked waits taken semaphore.create semaphore.waitAnswer semaphore.wait semaphore.postAnswer semaphore.post mutex.create mutex.waitAnswer mutex.wait mutex.postAnswer handed released mutex.post meeting isMet consumed woken group.create group.waitAnswer group.wait group.postAnswer group.post turned dueEnded dueBelow ticked answerTo changeBy forInterrupts answer effect serve toldIn widths ofKind reading spelled little sum numbers bodyLength callIn decimal runner line printedOf printed tape step count mayPrecede fits isOrdered each isShaped marksIn isTaskInRange isNoTask isNoSemaphore isNoMutex isNoGroup asksIn isSoundTask isSoundSemaphore isSoundMutex isSoundGroup mayWait ofState eachOf isSoundWait isSoundObjects isSoundQueues isWorkedOut isSoundWithin isSoundRuns isSound after answers runs
 bench =
     record {
       p1 = refl;
@@ -167,7 +190,11 @@ bench =
       p8 = (refl, refl);
       p9 = refl;
       p10 = (refl, refl, refl);
-      sound = (refl, refl, refl, refl, refl, refl);
+      sound = (refl, refl, refl, refl, refl, refl, refl, refl);
       waits-on = refl;
       is-given = (refl, refl);
+      reader-alone = refl;
+      clock-first = (refl, refl, refl, refl);
+      card-first = (refl, refl, refl, refl);
+      both-wake = (refl, refl, refl);
     }

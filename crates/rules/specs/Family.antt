@@ -1,14 +1,14 @@
 -- The kinds of objects that tasks wait for. Each is a family: what the calls that every kind has must know of it; `Object` says these
 -- calls once, over a family. In which queue a waiter stands and which numbers a state may name is read off the list of families, so
 -- that a kind of object is a row of it.
-use mathlib.Core.Bool.{Bool, cond}
+use mathlib.Core.Bool.{Bool, false, cond}
 use mathlib.Core.List.{List, [], _∷_}
 use Prim.Native.Nat.{ℕ, _+_}
 use lib.Dec.{eqb, ltb}
 use lib.ListN.{length}
-use Rattle.rules.specs.Sizes.{taskCount, semaphoreCount, mutexCount, delayed, waitsSemaphore, waitsMutex}
+use Rattle.rules.specs.Sizes.{taskCount, semaphoreCount, mutexCount, groupCount, delayed, waitsSemaphore, waitsMutex, waitsFlags}
 use Rattle.rules.specs.declared.Task.{Task}
-use Rattle.rules.specs.Table.{Table, semaphoreOf, mutexOf, holderOf, queueCount, ableQueue, semaphoreQueue, mutexQueue, isAble, noSemaphore, noMutex, withSemaphore, withMutex}
+use Rattle.rules.specs.Table.{Table, semaphoreOf, mutexOf, groupOf, holderOf, queueCount, ableQueue, semaphoreQueue, mutexQueue, groupQueue, isAble, noSemaphore, noMutex, noGroup, withSemaphore, withMutex, withGroup}
 
 pub record Family : Type 0 where
   -- the state of a task that waits for one of them, how many there are, and the queue of number 0, before those of the others
@@ -53,9 +53,23 @@ mutexes =
       holder = holderOf;
     }
 
+-- A group of flags. What there is to take goes by what a wait asks, and "Flags turned over by consuming wake nobody", so a waiter whose test is
+-- met may stand there until the next post: no rule ties waiters to flags. It has no holder: "flag waits are no part of a chain".
+abbrev pub groups : Family
+groups =
+    record {
+      state = waitsFlags;
+      count = groupCount;
+      first = groupQueue 0;
+      used = λ t g. groupOf t g .used;
+      gone = λ g t. withGroup g noGroup t;
+      offers = λ t g. false;
+      holder = λ t g. taskCount;
+    }
+
 -- All of them, in the order of their states and of their queues.
 abbrev pub families : List Family
-families = semaphores ∷ mutexes ∷ []
+families = semaphores ∷ mutexes ∷ groups ∷ []
 
 -- The states are those of no wait and one for each family.
 abbrev pub lastState : ℕ

@@ -11,7 +11,7 @@ use borrow.Author.Tests.{ne-eqb, leb-true}
 use Rattle.queue.specs.Order.{All, none, more}
 use Rattle.rules.specs.Kinds.{Kind, kinds, toldIn, widths, ofKind, reading, spelled, kindOf, numbersOf}
 use Rattle.rules.specs.declared.Call.{Call}
-use Rattle.rules.specs.declared.Call.the-variants.{TaskCreate, TaskDelete, ChangePriority, Suspend, Resume, Yield, Delay, DelayResume, Lock, Unlock, Tick, SemaphoreCreate, SemaphoreDelete, SemaphoreWait, SemaphorePost, SemaphoreAbort, MutexCreate, MutexDelete, MutexWait, MutexPost, MutexAbort}
+use Rattle.rules.specs.declared.Call.the-variants.{TaskCreate, TaskDelete, ChangePriority, Suspend, Resume, Yield, Delay, DelayResume, Lock, Unlock, Tick, SemaphoreCreate, SemaphoreDelete, SemaphoreWait, SemaphorePost, SemaphoreAbort, MutexCreate, MutexDelete, MutexWait, MutexPost, MutexAbort, GroupCreate, GroupDelete, GroupWait, GroupPost, GroupAbort}
 use Rattle.rules.specs.declared.Reading.the-variants.{Says}
 
 -- ---- what is told of a kind
@@ -67,7 +67,7 @@ narrow s a = record { six = s; four = all-at {P = λ w. w ≤ 4} (omega arith) a
 
 pub widths-narrow : (k : ℕ) → Narrow (widths k)
 unfolding widths
-widths-narrow k = told-each Narrow kinds k (λ r. r .widths) [] (search (end, with, narrow, none, more, leb-true) depth 40 fits 5000) (search (narrow, none, leb-true))
+widths-narrow k = told-each Narrow kinds k (λ r. r .widths) [] (search (end, with, narrow, none, more, leb-true) depth 60 fits 8000) (search (narrow, none, leb-true))
 
 -- The same numbers, with any number of zeros behind them,
 abbrev pub Same : List ℕ → List ℕ → Type 0
@@ -77,11 +77,6 @@ Same l m = (i : ℕ) → getD l i 0 ≡ getD m i 0
 pub reading-same : (kind : ℕ) (l m : List ℕ) → Same l m → reading kind l ≡ reading kind m
 unfolding reading ofKind
 reading-same kind l m same = rw (fun-ext same)
-
--- So a call with three numbers is one with six.
-pub three-numbers : (kind a b c : ℕ) → reading kind (a ∷ b ∷ c ∷ 0 ∷ 0 ∷ 0 ∷ []) ≡ reading kind (a ∷ b ∷ c ∷ [])
-unfolding reading ofKind toldIn
-three-numbers kind a b c = refl
 
 -- ---- a call and its kind
 
@@ -109,3 +104,8 @@ said-back (MutexDelete m force) interrupt = refl
 said-back (MutexWait m block limit) interrupt = refl
 said-back (MutexPost m) interrupt = refl
 said-back (MutexAbort m) interrupt = refl
+said-back (GroupCreate g flags) interrupt = refl
+said-back (GroupDelete g force) interrupt = refl
+said-back (GroupWait g block limit mask test consume) interrupt = refl
+said-back (GroupPost g mask on) interrupt = refl
+said-back (GroupAbort g) interrupt = refl

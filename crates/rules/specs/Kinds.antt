@@ -5,7 +5,7 @@ use Prim.Native.Nat.{ℕ, _-_}
 use lib.Dec.{eqb, leb}
 use lib.ListN.{getD, drop}
 use Rattle.rules.specs.declared.Call.{Call}
-use Rattle.rules.specs.declared.Call.the-variants.{TaskCreate, TaskDelete, ChangePriority, Suspend, Resume, Yield, Delay, DelayResume, Lock, Unlock, Tick, SemaphoreCreate, SemaphoreDelete, SemaphoreWait, SemaphorePost, SemaphoreAbort, MutexCreate, MutexDelete, MutexWait, MutexPost, MutexAbort}
+use Rattle.rules.specs.declared.Call.the-variants.{TaskCreate, TaskDelete, ChangePriority, Suspend, Resume, Yield, Delay, DelayResume, Lock, Unlock, Tick, SemaphoreCreate, SemaphoreDelete, SemaphoreWait, SemaphorePost, SemaphoreAbort, MutexCreate, MutexDelete, MutexWait, MutexPost, MutexAbort, GroupCreate, GroupDelete, GroupWait, GroupPost, GroupAbort}
 use Rattle.rules.specs.declared.Reading.{Reading}
 use Rattle.rules.specs.declared.Reading.the-variants.{Says, Unknown}
 
@@ -29,7 +29,8 @@ byAll byte widths call = record { byte = byte; widths = widths; interrupts = tru
 -- "01 task create (number, base, quantum 2 bytes); 02 delete (number); 03 change priority (number, base); 04 suspend; 05 resume (number
 -- each); 06 yield; 07 delay (4 bytes); 08 delay resume (number); 09 lock; 0A unlock; 0B tick; 10 semaphore create (number, count 4 bytes);
 -- 11 delete (number, force); 12 wait (number, block, limit 4 bytes); 13 post; 14 abort (number each); 20 mutex create (number); 21 delete,
--- 22 wait as 11, 12; 23 post; 24 abort (number each)."
+-- 22 wait as 11, 12; 23 post; 24 abort (number each)." And of groups of flags 30 create (number, flags 4 bytes); 31 delete as 11; 32 wait
+-- (number, block, limit 4 bytes, mask 4 bytes, test, consume); 33 post (number, mask 4 bytes, 1 set or 0 clear); 34 abort (number).
 abbrev pub kinds : List Kind
 kinds =
     byTasks 0x01 (1 ∷ 1 ∷ 2 ∷ []) (λ n. TaskCreate (n 0) (n 1) (n 2))
@@ -53,6 +54,11 @@ kinds =
     ∷ byTasks 0x22 (1 ∷ 1 ∷ 4 ∷ []) (λ n. MutexWait (n 0) (n 1) (n 2))
     ∷ byTasks 0x23 (1 ∷ []) (λ n. MutexPost (n 0))
     ∷ byTasks 0x24 (1 ∷ []) (λ n. MutexAbort (n 0))
+    ∷ byTasks 0x30 (1 ∷ 4 ∷ []) (λ n. GroupCreate (n 0) (n 1))
+    ∷ byTasks 0x31 (1 ∷ 1 ∷ []) (λ n. GroupDelete (n 0) (n 1))
+    ∷ byTasks 0x32 (1 ∷ 1 ∷ 4 ∷ 4 ∷ 1 ∷ 1 ∷ []) (λ n. GroupWait (n 0) (n 1) (n 2) (n 3) (n 4) (n 5))
+    ∷ byAll 0x33 (1 ∷ 4 ∷ 1 ∷ []) (λ n. GroupPost (n 0) (n 1) (n 2))
+    ∷ byTasks 0x34 (1 ∷ []) (λ n. GroupAbort (n 0))
     ∷ []
 
 -- What is told of the kind with the byte k; `lacking` where the list has none.
@@ -112,6 +118,11 @@ spelled (MutexDelete m force) = 0x21 ∷ m ∷ force ∷ []
 spelled (MutexWait m block limit) = 0x22 ∷ m ∷ block ∷ limit ∷ []
 spelled (MutexPost m) = 0x23 ∷ m ∷ []
 spelled (MutexAbort m) = 0x24 ∷ m ∷ []
+spelled (GroupCreate g flags) = 0x30 ∷ g ∷ flags ∷ []
+spelled (GroupDelete g force) = 0x31 ∷ g ∷ force ∷ []
+spelled (GroupWait g block limit mask test consume) = 0x32 ∷ g ∷ block ∷ limit ∷ mask ∷ test ∷ consume ∷ []
+spelled (GroupPost g mask on) = 0x33 ∷ g ∷ mask ∷ on ∷ []
+spelled (GroupAbort g) = 0x34 ∷ g ∷ []
 
 abbrev pub kindOf : Call → ℕ
 kindOf c = getD (spelled c) 0 0

@@ -14,6 +14,7 @@ pub mod Lock
 pub mod Object
 pub mod Semaphore
 pub mod Mutex
+pub mod Group
 pub mod Tick
 pub mod Kinds
 pub mod KindLaws

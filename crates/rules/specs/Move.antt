@@ -77,7 +77,7 @@ away k = withState delayed 0 (withMark 0 0 k)
 abbrev pub ready : ℕ → Task → Task
 ready outcome k = withOutcome outcome (withState plain 0 (withMark 0 0 k))
 
--- "it leaves its queue, the chain from the holder moves, it becomes plain, with outcome .."; a wait for a semaphore and a delay
+-- "it leaves its queue, the chain from the holder moves, it becomes plain, with outcome .."; a wait for a semaphore or for flags and a delay
 -- have no holder, and no chain moves.
 unfoldable pub ended : ℕ → ℕ → Table → Table
 ended outcome i t =

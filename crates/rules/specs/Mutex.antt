@@ -3,7 +3,7 @@ use mathlib.Core.Bool.{Bool, cond, not}
 use Prim.Native.Nat.{ℕ, _+_, _-_}
 use lib.Dec.{eqb, leb, ltb}
 use Rattle.rules.specs.Sizes.{mostNested, given, done, notItsHolder, nestedTooDeep}
-use Rattle.rules.specs.Table.{Table, taskOf, mutexOf, mutexQueue, firstIn, written, heldBy, withHold, withMutex}
+use Rattle.rules.specs.Table.{Table, nothingAsked, taskOf, mutexOf, mutexQueue, firstIn, written, heldBy, withHold, withMutex}
 use Rattle.rules.specs.Move.{put, walk, ready}
 use Rattle.rules.specs.Time.{byCaller, callerOf}
 use Rattle.rules.specs.Family.{mutexes}
@@ -44,7 +44,7 @@ wait m limit t =
     let isNested = isOwn m t in
     let takes = taken (withHoldOf m (written (callerOf t)) 1 t) in
     let nests = taken (withHoldOf m (mutexOf t m .holder) (mutexOf t m .nesting + 1) t) in
-    let blocks = waits mutexes m limit t in
+    let blocks = waits mutexes m limit nothingAsked t in
     cond isFree takes (cond isNested nests blocks)
 
 -- ---- "Mutex post: nesting less 1; at 0 the releaser moves first, then the first waiter becomes holder with nesting 1 and becomes

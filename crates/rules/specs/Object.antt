@@ -4,7 +4,7 @@ use Prim.Native.Nat.{ℕ, _-_}
 use lib.Dec.{eqb, ltb, leb}
 use Rattle.rules.specs.Sizes.{taskCount, given, aborted, objectDeleted, done, beyondRange, notInUse, inUse, badValue, whileLocked, nothingToTake, nothingToUndo, stillNeeded, blocks}
 use Rattle.rules.specs.declared.Task.{Task}
-use Rattle.rules.specs.Table.{Table, taskOf, isUsed, firstIn, withState, withMark, withOutcome}
+use Rattle.rules.specs.Table.{Table, Asked, taskOf, isUsed, firstIn, withState, withMark, withOutcome, withAsked}
 use Rattle.rules.specs.Move.{put, walk, ended, endedAll}
 use Rattle.rules.specs.Task.{isLocked}
 use Rattle.rules.specs.Time.{byCaller, callerOf, markIn}
@@ -42,13 +42,13 @@ blockAnswer block t = cond (eqb block 0) nothingToTake (cond (isLocked t) whileL
 abbrev pub limited : ℕ → Table → Task → Task
 limited limit t k = cond (eqb limit 0) (withMark 0 0 k) (withMark 1 (markIn limit t) k)
 
--- "the caller leaves the able queue, goes behind its equals in the object's queue"
-unfoldable pub blocked : (state object limit : ℕ) → Table → Table
-blocked state object limit t = put (callerOf t) (withState state object (limited limit t (taskOf t (callerOf t)))) t
+-- "the caller leaves the able queue, goes behind its equals in the object's queue"; what it asks of flags stands in its record
+unfoldable pub blocked : (state object limit : ℕ) → Asked → Table → Table
+blocked state object limit a t = put (callerOf t) (withAsked a (withState state object (limited limit t (taskOf t (callerOf t))))) t
 
 -- "and for a mutex the chain from the holder moves"
-unfoldable pub waits : Family → (o limit : ℕ) → Table → Table
-waits f o limit t = walk (f .holder t o) (blocked (f .state) o limit t)
+unfoldable pub waits : Family → (o limit : ℕ) → Asked → Table → Table
+waits f o limit a t = walk (f .holder t o) (blocked (f .state) o limit a t)
 
 -- The answer of a wait for number o, with the answer where it is in use.
 abbrev pub waitAnswerOn : Family → (o block answer : ℕ) → Table → ℕ

@@ -18,6 +18,6 @@ unfoldable pub says : Reading → Table → Outcome
 says (Says c interrupt) t = step c interrupt t
 says (Unknown interrupt) t = unknown interrupt t
 
--- "The port, written in C, calls with a kind, three numbers and the table's byte image".
-unfoldable pub portStep : ℕ → (a b c : ℕ) → Table → Outcome
-portStep kind a b c t = says (reading kind (a ∷ b ∷ c ∷ [])) t
+-- "The port, written in C, calls with a kind, three numbers and the table's byte image"; "the port may take more numbers": six.
+unfoldable pub portStep : ℕ → (a b c d e f : ℕ) → Table → Outcome
+portStep kind a b c d e f t = says (reading kind (a ∷ b ∷ c ∷ d ∷ e ∷ f ∷ [])) t

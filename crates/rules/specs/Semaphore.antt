@@ -3,7 +3,7 @@ use mathlib.Core.Bool.{cond}
 use Prim.Native.Nat.{ℕ, _+_, _-_}
 use lib.Dec.{leb}
 use Rattle.rules.specs.Sizes.{mostCount, given, done, countFull}
-use Rattle.rules.specs.Table.{Table, semaphoreOf, semaphoreQueue, firstIn, counting, withCount, withSemaphore}
+use Rattle.rules.specs.Table.{Table, nothingAsked, semaphoreOf, semaphoreQueue, firstIn, counting, withCount, withSemaphore}
 use Rattle.rules.specs.Move.{ended}
 use Rattle.rules.specs.Family.{semaphores}
 use Rattle.rules.specs.Object.{onOne, hasWaiter, blockAnswer, waitAnswerOn, waits, taken}
@@ -26,7 +26,7 @@ unfoldable pub wait : ℕ → ℕ → Table → Table
 wait s limit t =
     let isThere = semaphores .offers t s in
     let takes = taken (withCountOf s (semaphoreOf t s .count - 1) t) in
-    let blocks = waits semaphores s limit t in
+    let blocks = waits semaphores s limit nothingAsked t in
     cond isThere takes blocks
 
 -- ---- "Semaphore post: the first waiter is given it (outcome 0, count unchanged), else count plus 1."

@@ -12,6 +12,10 @@ semaphoreCount = 16
 abbrev pub mutexCount : ℕ
 mutexCount = 16
 
+-- "8 groups of 32 flags"
+abbrev pub groupCount : ℕ
+groupCount = 8
+
 -- ---- "Priorities 0 to 62; 0 is the most urgent."
 
 abbrev pub lastPriority : ℕ
@@ -22,7 +26,7 @@ lastPriority = 62
 abbrev pub mostNested : ℕ
 mostNested = 250
 
--- ---- "quantum 0 to 65,535"; a count and the tick counter have 32 bits
+-- ---- "quantum 0 to 65,535"; a count, the tick counter, a group's flags and a mask have 32 bits
 
 abbrev pub mostQuantum : ℕ
 mostQuantum = 65535
@@ -32,6 +36,10 @@ mostCount = 4294967295
 
 abbrev pub ticksRound : ℕ
 ticksRound = 4294967296
+
+-- how many sets of 32 flags there are
+abbrev pub flagSets : ℕ
+flagSets = 4294967296
 
 -- ---- "a state (plain, delayed, waiting for semaphore s, waiting for mutex m)"
 
@@ -46,6 +54,26 @@ waitsSemaphore = 2
 
 abbrev pub waitsMutex : ℕ
 waitsMutex = 3
+
+abbrev pub waitsFlags : ℕ
+waitsFlags = 4
+
+-- ---- "one of four tests: all set, any set, all clear, any clear"
+
+abbrev pub allSet : ℕ
+allSet = 0
+
+abbrev pub anySet : ℕ
+anySet = 1
+
+abbrev pub allClear : ℕ
+allClear = 2
+
+abbrev pub anyClear : ℕ
+anyClear = 3
+
+abbrev pub testCount : ℕ
+testCount = 4
 
 -- ---- "the outcome of its last wait (0 given, 1 timed out, 2 aborted, 3 object deleted)"
 
@@ -79,15 +107,15 @@ notInUse = 2
 abbrev pub inUse : ℕ
 inUse = 3
 
--- 4: "base priority above 62, a yes/no byte above 1, a delay of 0 ticks, or (port only) a quantum above 65,535"
+-- 4: "base priority above 62, a yes/no byte above 1, a delay of 0 ticks, or (port only) a quantum above 65,535"; "a mask of 0 or a fifth test"
 abbrev pub badValue : ℕ
 badValue = 4
 
--- 5: "made by an interrupt, and not a tick or a semaphore post"
+-- 5: "made by an interrupt, and not a tick or a semaphore post"; of flags, "a post by an interrupt no longer 5"
 abbrev pub byInterrupt : ℕ
 byInterrupt = 5
 
--- 6: "yield, delay, semaphore or mutex wait, mutex post: none is running"
+-- 6: "yield, delay, semaphore or mutex wait, mutex post: none is running"; of flags, "6 (a wait)"
 abbrev pub noneRunning : ℕ
 noneRunning = 6
 

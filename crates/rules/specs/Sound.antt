@@ -7,14 +7,15 @@ use Prim.Native.Nat.{ℕ, zero, suc, _-_, _≤_, _<_}
 use lib.Dec.{eqb, ltb, leb}
 use lib.ListN.{length}
 use Rattle.queue.specs.Order.{All, Ordered, count, isOrdered}
-use Rattle.rules.specs.Sizes.{taskCount, semaphoreCount, mutexCount, lastPriority, mostNested, mostQuantum, mostCount, ticksRound, plain, delayed, objectDeleted}
+use Rattle.rules.specs.Sizes.{taskCount, semaphoreCount, mutexCount, groupCount, lastPriority, mostNested, mostQuantum, mostCount, ticksRound, flagSets, testCount, plain, delayed, waitsFlags, objectDeleted}
 use Rattle.rules.specs.Chain.{Fresh}
-use Rattle.rules.specs.Table.{Table, taskOf, semaphoreOf, mutexOf, queueOf, queueCount, ableQueue, firstIn, works, isAble, written, noTask, noSemaphore, noMutex}
+use Rattle.rules.specs.Table.{Table, taskOf, semaphoreOf, mutexOf, groupOf, queueOf, queueCount, ableQueue, firstIn, works, isAble, written, noTask, noSemaphore, noMutex, noGroup}
 use Rattle.rules.specs.Move.{next, baseOf, freshIn}
 use Rattle.rules.specs.Family.{Family, Among, families, lastState, objectsIn, placeOf}
 use Rattle.rules.specs.declared.Task.{Task}
 use Rattle.rules.specs.declared.Semaphore.{Semaphore}
 use Rattle.rules.specs.declared.Mutex.{Mutex}
+use Rattle.rules.specs.declared.Group.{Group}
 
 -- ---- each number below n
 
@@ -48,6 +49,7 @@ pub record Shaped (t : Table) : Type 0 where
   pub tasks : length (t .tasks) ≡ taskCount
   pub semaphores : length (t .semaphores) ≡ semaphoreCount
   pub mutexes : length (t .mutexes) ≡ mutexCount
+  pub groups : length (t .groups) ≡ groupCount
   pub queues : length (t .queues) ≡ queueCount
   pub slots : Each queueCount (λ q. length (queueOf t q) ≡ taskCount)
 
@@ -56,14 +58,19 @@ isShaped t =
     eqb (length (t .tasks)) taskCount
     && (eqb (length (t .semaphores)) semaphoreCount
     && (eqb (length (t .mutexes)) mutexCount
+    && (eqb (length (t .groups)) groupCount
     && (eqb (length (t .queues)) queueCount
-    && each queueCount (λ q. eqb (length (queueOf t q)) taskCount))))
+    && each queueCount (λ q. eqb (length (queueOf t q)) taskCount)))))
 
 -- ---- "All fields are in range"
 
 -- How many numbers a due mark may have: none but 0 where there is none.
 unfoldable pub marksIn : ℕ → ℕ
 marksIn marked = cond (eqb marked 0) 1 ticksRound
+
+-- How many numbers what is asked of flags may have: n, and none but 0 where the task waits for no flags.
+unfoldable pub asksIn : (state n : ℕ) → ℕ
+asksIn state n = cond (eqb state waitsFlags) n 1
 
 pub record TaskInRange (k : Task) : Type 0 where
   pub used : k .used ≤ 1
@@ -77,6 +84,9 @@ pub record TaskInRange (k : Task) : Type 0 where
   pub marked : k .marked ≤ 1
   pub due : k .due < marksIn (k .marked)
   pub outcome : k .outcome ≤ objectDeleted
+  pub mask : k .mask < asksIn (k .state) flagSets
+  pub test : k .test < asksIn (k .state) testCount
+  pub consume : k .consume < asksIn (k .state) 2
 
 unfoldable pub isTaskInRange : Task → Bool
 isTaskInRange k =
@@ -90,7 +100,10 @@ isTaskInRange k =
     && (ltb (k .object) (objectsIn (k .state))
     && (leb (k .marked) 1
     && (ltb (k .due) (marksIn (k .marked))
-    && leb (k .outcome) objectDeleted)))))))))
+    && (leb (k .outcome) objectDeleted
+    && (ltb (k .mask) (asksIn (k .state) flagSets)
+    && (ltb (k .test) (asksIn (k .state) testCount)
+    && ltb (k .consume) (asksIn (k .state) 2)))))))))))))
 
 -- ---- "a free number has zero fields"
 
@@ -107,13 +120,19 @@ isNoTask k =
     && (eqb (k .object) 0
     && (eqb (k .marked) 0
     && (eqb (k .due) 0
-    && eqb (k .outcome) 0)))))))))
+    && (eqb (k .outcome) 0
+    && (eqb (k .mask) 0
+    && (eqb (k .test) 0
+    && eqb (k .consume) 0))))))))))))
 
 unfoldable pub isNoSemaphore : Semaphore → Bool
 isNoSemaphore x = eqb (x .used) 0 && eqb (x .count) 0
 
 unfoldable pub isNoMutex : Mutex → Bool
 isNoMutex x = eqb (x .used) 0 && (eqb (x .holder) 0 && eqb (x .nesting) 0)
+
+unfoldable pub isNoGroup : Group → Bool
+isNoGroup x = eqb (x .used) 0 && eqb (x .flags) 0
 
 -- ---- a task
 
@@ -125,6 +144,8 @@ pub record SoundTask (k : Task) : Type 0 where
   pub plainMark : k .state ≡ plain → k .marked ≡ 0
   pub delayMark : k .state ≡ delayed → k .marked ≡ 1
   pub left : k .left ≤ k .quantum
+  -- "a mask of 0 .. gets 4", so no waiter has one
+  pub asks : k .state ≡ waitsFlags → 1 ≤ k .mask
 
 unfoldable pub isSoundTask : Task → Bool
 isSoundTask k =
@@ -132,7 +153,8 @@ isSoundTask k =
     && (implies (eqb (k .used) 0) (isNoTask k)
     && (implies (eqb (k .state) plain) (eqb (k .marked) 0)
     && (implies (eqb (k .state) delayed) (eqb (k .marked) 1)
-    && leb (k .left) (k .quantum))))
+    && (leb (k .left) (k .quantum)
+    && implies (eqb (k .state) waitsFlags) (leb 1 (k .mask))))))
 
 abbrev pub SoundTasks : Table → Type 0
 SoundTasks t = Each taskCount (λ i. SoundTask (taskOf t i))
@@ -165,6 +187,14 @@ isSoundMutex x =
     && (implies (eqb (x .holder) 0) (eqb (x .nesting) 0)
     && implies (not (eqb (x .holder) 0)) (leb 1 (x .nesting))))))
 
+pub record SoundGroup (x : Group) : Type 0 where
+  pub used : x .used ≤ 1
+  pub flags : x .flags < flagSets
+  pub free : x .used ≡ 0 → x ≡ noGroup
+
+unfoldable pub isSoundGroup : Group → Bool
+isSoundGroup x = leb (x .used) 1 && (ltb (x .flags) flagSets && implies (eqb (x .used) 0) (isNoGroup x))
+
 -- Task i may wait for number o of the family: "Waited-for objects are in use"; what has something to take has no waiter ("A free mutex has
 -- .. no waiter", "a semaphore with a waiter has count 0"); "a holder .. does not wait for the mutex it holds".
 pub record MayWait (f : Family) (t : Table) (i o : ℕ) : Type 0 where
@@ -185,6 +215,7 @@ isSoundWait t i state object = eachOf families (λ f. implies (eqb state (f .sta
 pub record SoundObjects (t : Table) : Type 0 where
   pub semaphores : Each semaphoreCount (λ s. SoundSemaphore (semaphoreOf t s))
   pub mutexes : Each mutexCount (λ m. SoundMutex (mutexOf t m))
+  pub groups : Each groupCount (λ g. SoundGroup (groupOf t g))
   pub waits : Each taskCount (λ i. SoundWait t i (taskOf t i .state) (taskOf t i .object))
   -- "a holder is in use"
   pub holders : Each mutexCount (λ m. (mutexOf t m .holder ≡ 0 → ⊥) → taskOf t (mutexOf t m .holder - 1) .used ≡ 1)
@@ -193,8 +224,9 @@ unfoldable pub isSoundObjects : Table → Bool
 isSoundObjects t =
     each semaphoreCount (λ s. isSoundSemaphore (semaphoreOf t s))
     && (each mutexCount (λ m. isSoundMutex (mutexOf t m))
+    && (each groupCount (λ g. isSoundGroup (groupOf t g))
     && (each taskCount (λ i. isSoundWait t i (taskOf t i .state) (taskOf t i .object))
-    && each mutexCount (λ m. implies (not (eqb (mutexOf t m .holder) 0)) (eqb (taskOf t (mutexOf t m .holder - 1) .used) 1))))
+    && each mutexCount (λ m. implies (not (eqb (mutexOf t m .holder) 0)) (eqb (taskOf t (mutexOf t m .holder - 1) .used) 1)))))
 
 -- ---- the queues
 

@@ -4,20 +4,21 @@ use Prim.Native.Nat.{ℕ, _<_}
 use lib.Dec.{eqb}
 use lib.ListN.{getD}
 use Rattle.rules.specs.Sizes.{ticksRound, done, byInterrupt, blocks, notSound}
-use Rattle.rules.specs.Table.{Table}
+use Rattle.rules.specs.Table.{Table, asking}
 use Rattle.rules.specs.Move.{chosen}
 use Rattle.rules.specs.Task.{createAnswer, create, deleteAnswer, delete, priorityAnswer, changePriority, suspendAnswer, suspend, resumeAnswer, resume}
 use Rattle.rules.specs.Time.{yieldAnswer, yield, delayAnswer, delay, delayResumeAnswer, delayResume}
 use Rattle.rules.specs.Lock.{lockAnswer, lock, unlockAnswer, unlock}
 use Rattle.rules.specs.Object.{objectCreateAnswer, objectDeleteAnswer, objectDelete, objectAbortAnswer, objectAbort}
 use Rattle.rules.specs.Semaphore as semaphore
-use Rattle.rules.specs.Family.{semaphores, mutexes}
+use Rattle.rules.specs.Family.{semaphores, mutexes, groups}
 use Rattle.rules.specs.Mutex as mutex
+use Rattle.rules.specs.Group as group
 use Rattle.rules.specs.Tick.{ticked}
 use Rattle.rules.specs.Sound.{isSound}
 use Rattle.rules.specs.Kinds.{toldOf, kindOf, numbersOf}
 use Rattle.rules.specs.declared.Call.{Call}
-use Rattle.rules.specs.declared.Call.the-variants.{TaskCreate, TaskDelete, ChangePriority, Suspend, Resume, Yield, Delay, DelayResume, Lock, Unlock, Tick, SemaphoreCreate, SemaphoreDelete, SemaphoreWait, SemaphorePost, SemaphoreAbort, MutexCreate, MutexDelete, MutexWait, MutexPost, MutexAbort}
+use Rattle.rules.specs.declared.Call.the-variants.{TaskCreate, TaskDelete, ChangePriority, Suspend, Resume, Yield, Delay, DelayResume, Lock, Unlock, Tick, SemaphoreCreate, SemaphoreDelete, SemaphoreWait, SemaphorePost, SemaphoreAbort, MutexCreate, MutexDelete, MutexWait, MutexPost, MutexAbort, GroupCreate, GroupDelete, GroupWait, GroupPost, GroupAbort}
 
 -- What a call made by a task is answered on a sound table. "Order: 15, 5, 6, 1, 2 or 3, 4, then those of the call".
 unfoldable pub answerTo : Call → Table → ℕ
@@ -42,6 +43,11 @@ answerTo (MutexDelete m force) t = objectDeleteAnswer mutexes m force t
 answerTo (MutexWait m block limit) t = mutex.waitAnswer m block t
 answerTo (MutexPost m) t = mutex.postAnswer m t
 answerTo (MutexAbort m) t = objectAbortAnswer mutexes m t
+answerTo (GroupCreate g flags) t = objectCreateAnswer groups g t
+answerTo (GroupDelete g force) t = objectDeleteAnswer groups g force t
+answerTo (GroupWait g block limit mask test consume) t = group.waitAnswer g block (asking mask test consume) t
+answerTo (GroupPost g mask on) t = group.postAnswer g mask on t
+answerTo (GroupAbort g) t = objectAbortAnswer groups g t
 
 -- What it changes.
 unfoldable pub changeBy : Call → Table → Table
@@ -66,8 +72,13 @@ changeBy (MutexDelete m force) t = objectDelete mutexes m t
 changeBy (MutexWait m block limit) t = mutex.wait m limit t
 changeBy (MutexPost m) t = mutex.post m t
 changeBy (MutexAbort m) t = objectAbort mutexes m t
+changeBy (GroupCreate g flags) t = group.create g flags t
+changeBy (GroupDelete g force) t = objectDelete groups g t
+changeBy (GroupWait g block limit mask test consume) t = group.wait g limit (asking mask test consume) t
+changeBy (GroupPost g mask on) t = group.post g mask on t
+changeBy (GroupAbort g) t = objectAbort groups g t
 
--- "made by an interrupt, and not a tick or a semaphore post": 5
+-- "made by an interrupt, and not a tick or a semaphore post", nor a post of flags: 5
 unfoldable pub forInterrupts : Call → Bool
 forInterrupts c = toldOf (kindOf c) (λ r. r .interrupts) false
 

@@ -5,20 +5,22 @@ use mathlib.Core.List.{List, [], map}
 use Prim.Native.Nat.{ℕ, _+_, _-_}
 use lib.Dec.{eqb}
 use lib.ListN.{getD, set, replicate}
-use Rattle.rules.specs.Sizes.{taskCount, semaphoreCount, mutexCount, plain}
+use Rattle.rules.specs.Sizes.{taskCount, semaphoreCount, mutexCount, groupCount, plain}
 use Rattle.rules.specs.declared.Task.{Task}
 use Rattle.rules.specs.declared.Semaphore.{Semaphore}
 use Rattle.rules.specs.declared.Mutex.{Mutex}
+use Rattle.rules.specs.declared.Group.{Group}
 
 -- Where "none" may stand, a task's number is written plus 1, and none is 0: a holder, the running task, a slot of a queue.
 abbrev pub written : ℕ → ℕ
 written i = i + 1
 
--- The tasks, semaphores and mutexes, free or in use; one list of queues; tick counter, lock depth and the running task.
+-- The tasks, semaphores, mutexes and groups of flags, free or in use; one list of queues; tick counter, lock depth and the running task.
 pub record Table : Type 0 where
   pub tasks : List Task
   pub semaphores : List Semaphore
   pub mutexes : List Mutex
+  pub groups : List Group
   pub queues : List (List ℕ)
   pub tick : ℕ
   pub depth : ℕ
@@ -27,7 +29,7 @@ pub record Table : Type 0 where
 -- ---- free numbers: "a free number has zero fields"
 
 abbrev pub noTask : Task
-noTask = record { used = 0; base = 0; work = 0; suspend = 0; quantum = 0; left = 0; state = 0; object = 0; marked = 0; due = 0; outcome = 0 }
+noTask = record { used = 0; base = 0; work = 0; suspend = 0; quantum = 0; left = 0; state = 0; object = 0; marked = 0; due = 0; outcome = 0; mask = 0; test = 0; consume = 0 }
 
 abbrev pub noSemaphore : Semaphore
 noSemaphore = record { used = 0; count = 0 }
@@ -35,36 +37,57 @@ noSemaphore = record { used = 0; count = 0 }
 abbrev pub noMutex : Mutex
 noMutex = record { used = 0; holder = 0; nesting = 0 }
 
+abbrev pub noGroup : Group
+noGroup = record { used = 0; flags = 0 }
+
+-- ---- "A wait names a mask and one of four tests ..; it may consume the flags that met the test."
+
+pub record Asked : Type 0 where
+  pub mask : ℕ
+  pub test : ℕ
+  pub consume : ℕ
+
+abbrev pub asking : (mask test consume : ℕ) → Asked
+asking mask test consume = record { mask = mask; test = test; consume = consume }
+
+-- What a wait for another object asks, and a task that waits for none.
+abbrev pub nothingAsked : Asked
+nothingAsked = asking 0 0 0
+
 -- ---- one field changed: only these write a record out whole
 
 abbrev pub withUsed : ℕ → Task → Task
-withUsed x k = record { used = x; base = k .base; work = k .work; suspend = k .suspend; quantum = k .quantum; left = k .left; state = k .state; object = k .object; marked = k .marked; due = k .due; outcome = k .outcome }
+withUsed x k = record { used = x; base = k .base; work = k .work; suspend = k .suspend; quantum = k .quantum; left = k .left; state = k .state; object = k .object; marked = k .marked; due = k .due; outcome = k .outcome; mask = k .mask; test = k .test; consume = k .consume }
 
 abbrev pub withBase : ℕ → Task → Task
-withBase x k = record { used = k .used; base = x; work = k .work; suspend = k .suspend; quantum = k .quantum; left = k .left; state = k .state; object = k .object; marked = k .marked; due = k .due; outcome = k .outcome }
+withBase x k = record { used = k .used; base = x; work = k .work; suspend = k .suspend; quantum = k .quantum; left = k .left; state = k .state; object = k .object; marked = k .marked; due = k .due; outcome = k .outcome; mask = k .mask; test = k .test; consume = k .consume }
 
 abbrev pub withWork : ℕ → Task → Task
-withWork x k = record { used = k .used; base = k .base; work = x; suspend = k .suspend; quantum = k .quantum; left = k .left; state = k .state; object = k .object; marked = k .marked; due = k .due; outcome = k .outcome }
+withWork x k = record { used = k .used; base = k .base; work = x; suspend = k .suspend; quantum = k .quantum; left = k .left; state = k .state; object = k .object; marked = k .marked; due = k .due; outcome = k .outcome; mask = k .mask; test = k .test; consume = k .consume }
 
 abbrev pub withSuspend : ℕ → Task → Task
-withSuspend x k = record { used = k .used; base = k .base; work = k .work; suspend = x; quantum = k .quantum; left = k .left; state = k .state; object = k .object; marked = k .marked; due = k .due; outcome = k .outcome }
+withSuspend x k = record { used = k .used; base = k .base; work = k .work; suspend = x; quantum = k .quantum; left = k .left; state = k .state; object = k .object; marked = k .marked; due = k .due; outcome = k .outcome; mask = k .mask; test = k .test; consume = k .consume }
 
 abbrev pub withQuantum : ℕ → Task → Task
-withQuantum x k = record { used = k .used; base = k .base; work = k .work; suspend = k .suspend; quantum = x; left = k .left; state = k .state; object = k .object; marked = k .marked; due = k .due; outcome = k .outcome }
+withQuantum x k = record { used = k .used; base = k .base; work = k .work; suspend = k .suspend; quantum = x; left = k .left; state = k .state; object = k .object; marked = k .marked; due = k .due; outcome = k .outcome; mask = k .mask; test = k .test; consume = k .consume }
 
 abbrev pub withLeft : ℕ → Task → Task
-withLeft x k = record { used = k .used; base = k .base; work = k .work; suspend = k .suspend; quantum = k .quantum; left = x; state = k .state; object = k .object; marked = k .marked; due = k .due; outcome = k .outcome }
+withLeft x k = record { used = k .used; base = k .base; work = k .work; suspend = k .suspend; quantum = k .quantum; left = x; state = k .state; object = k .object; marked = k .marked; due = k .due; outcome = k .outcome; mask = k .mask; test = k .test; consume = k .consume }
 
--- the state with the number of the object waited for, 0 where none is
+-- the state with the number of the object waited for, 0 where none is; nothing is asked of flags
 abbrev pub withState : ℕ → ℕ → Task → Task
-withState x o k = record { used = k .used; base = k .base; work = k .work; suspend = k .suspend; quantum = k .quantum; left = k .left; state = x; object = o; marked = k .marked; due = k .due; outcome = k .outcome }
+withState x o k = record { used = k .used; base = k .base; work = k .work; suspend = k .suspend; quantum = k .quantum; left = k .left; state = x; object = o; marked = k .marked; due = k .due; outcome = k .outcome; mask = 0; test = 0; consume = 0 }
+
+-- what is asked of the flags that it waits for
+abbrev pub withAsked : Asked → Task → Task
+withAsked a k = record { used = k .used; base = k .base; work = k .work; suspend = k .suspend; quantum = k .quantum; left = k .left; state = k .state; object = k .object; marked = k .marked; due = k .due; outcome = k .outcome; mask = a .mask; test = a .test; consume = a .consume }
 
 -- 1 and the due mark, or 0 and 0 for none
 abbrev pub withMark : ℕ → ℕ → Task → Task
-withMark x d k = record { used = k .used; base = k .base; work = k .work; suspend = k .suspend; quantum = k .quantum; left = k .left; state = k .state; object = k .object; marked = x; due = d; outcome = k .outcome }
+withMark x d k = record { used = k .used; base = k .base; work = k .work; suspend = k .suspend; quantum = k .quantum; left = k .left; state = k .state; object = k .object; marked = x; due = d; outcome = k .outcome; mask = k .mask; test = k .test; consume = k .consume }
 
 abbrev pub withOutcome : ℕ → Task → Task
-withOutcome x k = record { used = k .used; base = k .base; work = k .work; suspend = k .suspend; quantum = k .quantum; left = k .left; state = k .state; object = k .object; marked = k .marked; due = k .due; outcome = x }
+withOutcome x k = record { used = k .used; base = k .base; work = k .work; suspend = k .suspend; quantum = k .quantum; left = k .left; state = k .state; object = k .object; marked = k .marked; due = k .due; outcome = x; mask = k .mask; test = k .test; consume = k .consume }
 
 abbrev pub withCount : ℕ → Semaphore → Semaphore
 withCount n x = record { used = x .used; count = n }
@@ -73,6 +96,9 @@ withCount n x = record { used = x .used; count = n }
 abbrev pub withHold : ℕ → ℕ → Mutex → Mutex
 withHold h n x = record { used = x .used; holder = h; nesting = n }
 
+abbrev pub withFlags : ℕ → Group → Group
+withFlags n x = record { used = x .used; flags = n }
+
 abbrev pub counting : ℕ → Semaphore
 counting n = record { used = 1; count = n }
 
@@ -80,20 +106,32 @@ counting n = record { used = 1; count = n }
 abbrev pub heldBy : ℕ → ℕ → Mutex
 heldBy h n = record { used = 1; holder = h; nesting = n }
 
+abbrev pub flagged : ℕ → Group
+flagged n = record { used = 1; flags = n }
+
 abbrev pub withTasks : List Task → Table → Table
-withTasks x t = record { tasks = x; semaphores = t .semaphores; mutexes = t .mutexes; queues = t .queues; tick = t .tick; depth = t .depth; running = t .running }
+withTasks x t = record { tasks = x; semaphores = t .semaphores; mutexes = t .mutexes; groups = t .groups; queues = t .queues; tick = t .tick; depth = t .depth; running = t .running }
+
+abbrev pub withSemaphores : List Semaphore → Table → Table
+withSemaphores x t = record { tasks = t .tasks; semaphores = x; mutexes = t .mutexes; groups = t .groups; queues = t .queues; tick = t .tick; depth = t .depth; running = t .running }
+
+abbrev pub withMutexes : List Mutex → Table → Table
+withMutexes x t = record { tasks = t .tasks; semaphores = t .semaphores; mutexes = x; groups = t .groups; queues = t .queues; tick = t .tick; depth = t .depth; running = t .running }
+
+abbrev pub withGroups : List Group → Table → Table
+withGroups x t = record { tasks = t .tasks; semaphores = t .semaphores; mutexes = t .mutexes; groups = x; queues = t .queues; tick = t .tick; depth = t .depth; running = t .running }
 
 abbrev pub withQueues : List (List ℕ) → Table → Table
-withQueues x t = record { tasks = t .tasks; semaphores = t .semaphores; mutexes = t .mutexes; queues = x; tick = t .tick; depth = t .depth; running = t .running }
+withQueues x t = record { tasks = t .tasks; semaphores = t .semaphores; mutexes = t .mutexes; groups = t .groups; queues = x; tick = t .tick; depth = t .depth; running = t .running }
 
 abbrev pub withTick : ℕ → Table → Table
-withTick x t = record { tasks = t .tasks; semaphores = t .semaphores; mutexes = t .mutexes; queues = t .queues; tick = x; depth = t .depth; running = t .running }
+withTick x t = record { tasks = t .tasks; semaphores = t .semaphores; mutexes = t .mutexes; groups = t .groups; queues = t .queues; tick = x; depth = t .depth; running = t .running }
 
 abbrev pub withDepth : ℕ → Table → Table
-withDepth x t = record { tasks = t .tasks; semaphores = t .semaphores; mutexes = t .mutexes; queues = t .queues; tick = t .tick; depth = x; running = t .running }
+withDepth x t = record { tasks = t .tasks; semaphores = t .semaphores; mutexes = t .mutexes; groups = t .groups; queues = t .queues; tick = t .tick; depth = x; running = t .running }
 
 abbrev pub withRunning : ℕ → Table → Table
-withRunning x t = record { tasks = t .tasks; semaphores = t .semaphores; mutexes = t .mutexes; queues = t .queues; tick = t .tick; depth = t .depth; running = x }
+withRunning x t = record { tasks = t .tasks; semaphores = t .semaphores; mutexes = t .mutexes; groups = t .groups; queues = t .queues; tick = t .tick; depth = t .depth; running = x }
 
 -- one task, object or queue changed
 
@@ -101,10 +139,13 @@ abbrev pub withTask : ℕ → Task → Table → Table
 withTask i k t = withTasks (set (t .tasks) i k) t
 
 abbrev pub withSemaphore : ℕ → Semaphore → Table → Table
-withSemaphore s x t = record { tasks = t .tasks; semaphores = set (t .semaphores) s x; mutexes = t .mutexes; queues = t .queues; tick = t .tick; depth = t .depth; running = t .running }
+withSemaphore s x t = withSemaphores (set (t .semaphores) s x) t
 
 abbrev pub withMutex : ℕ → Mutex → Table → Table
-withMutex m x t = record { tasks = t .tasks; semaphores = t .semaphores; mutexes = set (t .mutexes) m x; queues = t .queues; tick = t .tick; depth = t .depth; running = t .running }
+withMutex m x t = withMutexes (set (t .mutexes) m x) t
+
+abbrev pub withGroup : ℕ → Group → Table → Table
+withGroup g x t = withGroups (set (t .groups) g x) t
 
 abbrev pub withQueue : ℕ → List ℕ → Table → Table
 withQueue q l t = withQueues (set (t .queues) q l) t
@@ -120,6 +161,12 @@ semaphoreOf t s = getD (t .semaphores) s noSemaphore
 abbrev pub mutexOf : Table → ℕ → Mutex
 mutexOf t m = getD (t .mutexes) m noMutex
 
+abbrev pub groupOf : Table → ℕ → Group
+groupOf t g = getD (t .groups) g noGroup
+
+abbrev pub askedBy : Task → Asked
+askedBy k = asking (k .mask) (k .test) (k .consume)
+
 abbrev pub queueOf : Table → ℕ → List ℕ
 queueOf t q = getD (t .queues) q []
 
@@ -127,7 +174,8 @@ queueOf t q = getD (t .queues) q []
 unfoldable pub holderOf : Table → ℕ → ℕ
 holderOf t m = cond (eqb (mutexOf t m .holder) 0) taskCount (mutexOf t m .holder - 1)
 
--- "Queues: the able tasks, and the waiters of each object." The able queue first, then the semaphores', then the mutexes'.
+-- "Queues: the able tasks, and the waiters of each object." The able queue first, then the semaphores', then the mutexes', then
+-- the groups'.
 abbrev pub ableQueue : ℕ
 ableQueue = 0
 
@@ -137,8 +185,11 @@ semaphoreQueue s = ableQueue + 1 + s
 abbrev pub mutexQueue : ℕ → ℕ
 mutexQueue m = semaphoreQueue semaphoreCount + m
 
+abbrev pub groupQueue : ℕ → ℕ
+groupQueue g = mutexQueue mutexCount + g
+
 abbrev pub queueCount : ℕ
-queueCount = mutexQueue mutexCount
+queueCount = groupQueue groupCount
 
 -- "A number is in use or free"
 abbrev pub isUsed : ℕ → Bool
@@ -152,9 +203,12 @@ isAble k = isUsed (k .used) && (eqb (k .state) plain && eqb (k .suspend) 0)
 unfoldable pub works : Table → List ℕ
 works t = map (λ k. k .work) (t .tasks)
 
--- The task written in the front slot of a queue, 0 for none.
+-- The task written in slot k of a queue, 0 for none; in the front slot.
+abbrev pub slotIn : (q k : ℕ) → Table → ℕ
+slotIn q k t = getD (queueOf t q) k 0
+
 abbrev pub firstIn : ℕ → Table → ℕ
-firstIn q t = getD (queueOf t q) 0 0
+firstIn q t = slotIn q 0 t
 
 -- "The fresh table: nothing in use, all numbers 0, none running."
 unfoldable pub freshTable : Table
@@ -163,6 +217,7 @@ freshTable =
       tasks = replicate taskCount noTask;
       semaphores = replicate semaphoreCount noSemaphore;
       mutexes = replicate mutexCount noMutex;
+      groups = replicate groupCount noGroup;
       queues = replicate queueCount (replicate taskCount 0);
       tick = 0;
       depth = 0;

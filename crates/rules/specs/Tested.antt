@@ -14,12 +14,13 @@ use Rattle.queue.specs.Checked.{whole-checked, checked-whole}
 use Rattle.rules.specs.Sizes.{taskCount}
 use Rattle.rules.specs.Chain.{Ends, Fresh, fresh}
 use Rattle.rules.specs.Afresh.{lt-or-le, fresh-is, fresh-one}
-use Rattle.rules.specs.Table.{Table, taskOf, semaphoreOf, mutexOf, written, works, noTask, noSemaphore, noMutex}
+use Rattle.rules.specs.Table.{Table, taskOf, semaphoreOf, mutexOf, groupOf, written, works, noTask, noSemaphore, noMutex, noGroup}
 use Rattle.rules.specs.Move.{next, freshIn}
 use Rattle.rules.specs.declared.Task.{Task}
 use Rattle.rules.specs.declared.Semaphore.{Semaphore}
 use Rattle.rules.specs.declared.Mutex.{Mutex}
-use Rattle.rules.specs.Sound.{Each, once, Shaped, isShaped, TaskInRange, isTaskInRange, isNoTask, isNoSemaphore, isNoMutex, SoundTask, isSoundTask, SoundSemaphore, isSoundSemaphore, SoundMutex, isSoundMutex, MayWait, mayWait, SoundWait, isSoundWait, SoundObjects, isSoundObjects, SoundQueues, isSoundQueues, isWorkedOut, SoundWithin, isSoundWithin, SoundRuns, isSoundRuns, Sound, isSound}
+use Rattle.rules.specs.declared.Group.{Group}
+use Rattle.rules.specs.Sound.{Each, once, Shaped, isShaped, TaskInRange, isTaskInRange, isNoTask, isNoSemaphore, isNoMutex, isNoGroup, SoundTask, isSoundTask, SoundSemaphore, isSoundSemaphore, SoundMutex, isSoundMutex, SoundGroup, isSoundGroup, MayWait, mayWait, SoundWait, isSoundWait, SoundObjects, isSoundObjects, SoundQueues, isSoundQueues, isWorkedOut, SoundWithin, isSoundWithin, SoundRuns, isSoundRuns, Sound, isSound}
 use Rattle.rules.specs.Family.{Family, placeOf}
 use Rattle.rules.specs.Decides.{Decides, equals, at-most, itself, fails, if-so, either, first, last, each-one, each-of}
 
@@ -31,9 +32,10 @@ shaped t =
     first (λ s. s .tasks) equals λ tasks.
     first (λ s. s .semaphores) equals λ semaphores.
     first (λ s. s .mutexes) equals λ mutexes.
+    first (λ s. s .groups) equals λ groups.
     first (λ s. s .queues) equals λ queues.
     last (λ s. s .slots) (each-one λ q l. equals) λ slots.
-    record { tasks = tasks; semaphores = semaphores; mutexes = mutexes; queues = queues; slots = slots }
+    record { tasks = tasks; semaphores = semaphores; mutexes = mutexes; groups = groups; queues = queues; slots = slots }
 
 task-in-range : (k : Task) → Decides (isTaskInRange k) (TaskInRange k)
 unfolding isTaskInRange
@@ -48,8 +50,11 @@ task-in-range k =
     first (λ s. s .object) at-most λ object.
     first (λ s. s .marked) at-most λ marked.
     first (λ s. s .due) at-most λ due.
-    last (λ s. s .outcome) at-most λ outcome.
-    record { used = used; base = base; work = work; suspend = suspend; quantum = quantum; left = left; state = state; object = object; marked = marked; due = due; outcome = outcome }
+    first (λ s. s .outcome) at-most λ outcome.
+    first (λ s. s .mask) at-most λ mask.
+    first (λ s. s .test) at-most λ test.
+    last (λ s. s .consume) at-most λ consume.
+    record { used = used; base = base; work = work; suspend = suspend; quantum = quantum; left = left; state = state; object = object; marked = marked; due = due; outcome = outcome; mask = mask; test = test; consume = consume }
 
 -- ---- free numbers
 
@@ -66,8 +71,11 @@ no-task k =
     first (ap λ (x : Task). x .object) equals λ object.
     first (ap λ (x : Task). x .marked) equals λ marked.
     first (ap λ (x : Task). x .due) equals λ due.
-    last (ap λ (x : Task). x .outcome) equals λ outcome i.
-    record { used = used i; base = base i; work = work i; suspend = suspend i; quantum = quantum i; left = left i; state = state i; object = object i; marked = marked i; due = due i; outcome = outcome i }
+    first (ap λ (x : Task). x .outcome) equals λ outcome.
+    first (ap λ (x : Task). x .mask) equals λ mask.
+    first (ap λ (x : Task). x .test) equals λ test.
+    last (ap λ (x : Task). x .consume) equals λ consume i.
+    record { used = used i; base = base i; work = work i; suspend = suspend i; quantum = quantum i; left = left i; state = state i; object = object i; marked = marked i; due = due i; outcome = outcome i; mask = mask i; test = test i; consume = consume i }
 
 no-semaphore : (x : Semaphore) → Decides (isNoSemaphore x) (x ≡ noSemaphore)
 unfolding isNoSemaphore
@@ -84,6 +92,13 @@ no-mutex x =
     last (ap λ (x : Mutex). x .nesting) equals λ nesting i.
     record { used = used i; holder = holder i; nesting = nesting i }
 
+no-group : (x : Group) → Decides (isNoGroup x) (x ≡ noGroup)
+unfolding isNoGroup
+no-group x =
+    first (ap λ (x : Group). x .used) equals λ used.
+    last (ap λ (x : Group). x .flags) equals λ flags i.
+    record { used = used i; flags = flags i }
+
 -- ---- tasks and objects
 
 pub task-right : (k : Task) → Decides (isSoundTask k) (SoundTask k)
@@ -93,8 +108,9 @@ task-right k =
     first (λ r. r .freeZero) (if-so equals (no-task k)) λ freeZero.
     first (λ r. r .plainMark) (if-so equals equals) λ plainMark.
     first (λ r. r .delayMark) (if-so equals equals) λ delayMark.
-    last (λ r. r .left) at-most λ left.
-    record { inRange = inRange; freeZero = freeZero; plainMark = plainMark; delayMark = delayMark; left = left }
+    first (λ r. r .left) at-most λ left.
+    last (λ r. r .asks) (if-so equals at-most) λ asks.
+    record { inRange = inRange; freeZero = freeZero; plainMark = plainMark; delayMark = delayMark; left = left; asks = asks }
 
 pub semaphore-right : (x : Semaphore) → Decides (isSoundSemaphore x) (SoundSemaphore x)
 unfolding isSoundSemaphore
@@ -115,6 +131,14 @@ mutex-right x =
     last (λ r. r .held) (if-so (fails equals) at-most) λ held.
     record { used = used; holder = holder; nesting = nesting; free = free; unheld = unheld; held = held }
 
+pub group-right : (x : Group) → Decides (isSoundGroup x) (SoundGroup x)
+unfolding isSoundGroup
+group-right x =
+    first (λ r. r .used) at-most λ used.
+    first (λ r. r .flags) at-most λ flags.
+    last (λ r. r .free) (if-so equals (no-group x)) λ free.
+    record { used = used; flags = flags; free = free }
+
 pub may-wait : (f : Family) (t : Table) (i o : ℕ) → Decides (mayWait f t i o) (MayWait f t i o)
 unfolding mayWait
 may-wait f t i o =
@@ -132,9 +156,10 @@ unfolding isSoundObjects
 objects-right t =
     first (λ r. r .semaphores) (each-one λ s l. semaphore-right (semaphoreOf t s)) λ semaphores.
     first (λ r. r .mutexes) (each-one λ m l. mutex-right (mutexOf t m)) λ mutexes.
+    first (λ r. r .groups) (each-one λ g l. group-right (groupOf t g)) λ groups.
     first (λ r. r .waits) (each-one λ i l. wait-right t i (taskOf t i .state) (taskOf t i .object)) λ waits.
     last (λ r. r .holders) (each-one λ m l. if-so (fails equals) equals) λ holders.
-    record { semaphores = semaphores; mutexes = mutexes; waits = waits; holders = holders }
+    record { semaphores = semaphores; mutexes = mutexes; groups = groups; waits = waits; holders = holders }
 
 -- ---- queues
 

@@ -1,6 +1,7 @@
 // The records and calls that the rules and the code share. What they mean stands in specs/.
 
-// A task. `object` is the number of the object that it waits for, and `due` its due mark; each is 0 where there is none.
+// A task. `object` is the number of the object that it waits for, and `due` its due mark; each is 0 where there is none. `mask`, `test` and
+// `consume` are what it asks of the flags that it waits for, 0 where it waits for none.
 pub struct Task {
     pub used: u8,
     pub base: u8,
@@ -13,6 +14,9 @@ pub struct Task {
     pub marked: u8,
     pub due: u32,
     pub outcome: u8,
+    pub mask: u32,
+    pub test: u8,
+    pub consume: u8,
 }
 
 pub struct Semaphore {
@@ -25,6 +29,12 @@ pub struct Mutex {
     pub used: u8,
     pub holder: u8,
     pub nesting: u8,
+}
+
+// A group of 32 flags.
+pub struct Group {
+    pub used: u8,
+    pub flags: u32,
 }
 
 // A service call or tick, with its numbers in the order of the tape.
@@ -50,6 +60,11 @@ pub enum Call {
     MutexWait(u32, u32, u32),
     MutexPost(u32),
     MutexAbort(u32),
+    GroupCreate(u32, u32),
+    GroupDelete(u32, u32),
+    GroupWait(u32, u32, u32, u32, u32, u32),
+    GroupPost(u32, u32, u32),
+    GroupAbort(u32),
 }
 
 // What a kind byte and its numbers say: a call, made by an interrupt or not, or a kind that the list lacks.

@@ -5,7 +5,7 @@ use mathlib.Core.Bool.{Bool, true, false, cond}
 use mathlib.Core.List.{List, [], _∷_}
 use Prim.Native.Nat.{ℕ, zero, suc, _+_, _*_, _≤_, _<_}
 use native.Mathlib.Decide.{ℕ-discrete}
-use native.Mathlib.Nat.{not-suc-le-zero, add-zero, add-suc}
+use native.Mathlib.Nat.{not-suc-le-zero, zero-add, add-zero, add-suc}
 use native.Mathlib.Omega.{arith}
 use lib.Dec.{eqb}
 use lib.ListN.{length, getD}
@@ -15,7 +15,7 @@ use Rattle.queue.specs.Order.{All, none, more, Ordered, empty, front, one, coun
 use Rattle.queue.specs.Counts.{one-same, one-other}
 use Rattle.queue.specs.Keeps.{all-map}
 use Rattle.rules.specs.Sizes.{taskCount}
-use Rattle.rules.specs.Table.{Table, queueOf, queueCount}
+use Rattle.rules.specs.Table.{Table, queueOf, queueCount, ableQueue}
 use Rattle.rules.specs.Sound.{Each}
 use Rattle.rules.specs.Decides.{Decides, equals, last}
 
@@ -109,23 +109,29 @@ unfoldable pub frees : ℕ → Table → ℕ
 frees zero t = 0
 frees (suc q) t = frees q t + count 0 (queueOf t q)
 
--- Three queues more.
-pub frees-three : (q : ℕ) (t : Table) → frees (q + 3) t ≡ frees q t + (count 0 (queueOf t q) + (count 0 (queueOf t (q + 1)) + count 0 (queueOf t (q + 2))))
+-- The able queue, and five queues more.
+pub frees-able : (t : Table) → frees 1 t ≡ count 0 (queueOf t ableQueue)
 unfolding frees
-frees-three q t =
+frees-able t = zero-add (count 0 (queueOf t ableQueue))
+
+-- The sum over five queues.
+abbrev pub ofFive : (ℕ → ℕ) → ℕ → ℕ
+ofFive f q = f q + (f (q + 1) + (f (q + 2) + (f (q + 3) + f (q + 4))))
+
+pub frees-five : (q : ℕ) (t : Table) → frees (q + 5) t ≡ frees q t + ofFive (λ p. count 0 (queueOf t p)) q
+unfolding frees
+frees-five q t =
     let one : q + 1 ≡ suc q = omega arith in
     let two : q + 2 ≡ suc (suc q) = omega arith in
     let three : q + 3 ≡ suc (suc (suc q)) = omega arith in
-    rw (one, two, three) (omega arith)
+    let four : q + 4 ≡ suc (suc (suc (suc q))) = omega arith in
+    let five : q + 5 ≡ suc (suc (suc (suc (suc q)))) = omega arith in
+    rw (one, two, three, four, five) (omega arith)
 
 pub frees-grow : (q n : ℕ) (t : Table) → frees q t ≤ frees (q + n) t
 unfolding frees
 frees-grow q zero t = rw (add-zero q) (omega arith)
 frees-grow q (suc n) t = rw (add-suc q n) (omega (arith, frees-grow q n t))
-
-pub frees-none : (t : Table) → 0 ≡ frees 0 t
-unfolding frees
-frees-none t = refl
 
 abbrev pub slotCount : ℕ
 slotCount = queueCount * taskCount

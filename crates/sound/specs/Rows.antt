@@ -1,4 +1,4 @@
--- The tests of the fields, row by row, and that together they are the rules' tests of a task, a semaphore and a mutex.
+-- The tests of the fields, row by row, and that together they are the rules' tests of a task and of an object.
 use mathlib.Core.Path.{_≡_, ap}
 use mathlib.Core.Bool.{Bool, true, not, _&&_, _||_}
 use Prim.Native.Nat.{ℕ, _≤_, _<_}
@@ -7,14 +7,15 @@ use native.Mathlib.Nat.{pos-of-ne-zero}
 use native.Mathlib.Omega.{arith}
 use lib.Dec.{eqb, leb, ltb}
 use borrow.Author.Tests.{eq-eqb, ne-eqb, le-leb}
-use Rattle.rules.specs.Sizes.{taskCount, semaphoreCount, mutexCount, lastPriority, mostNested, mostQuantum, mostCount, ticksRound, plain, delayed, objectDeleted}
+use Rattle.rules.specs.Sizes.{taskCount, semaphoreCount, mutexCount, groupCount, lastPriority, mostNested, mostQuantum, mostCount, ticksRound, flagSets, testCount, plain, delayed, waitsFlags, objectDeleted}
 use Rattle.rules.specs.declared.Task.{Task}
 use Rattle.rules.specs.declared.Semaphore.{Semaphore}
 use Rattle.rules.specs.declared.Mutex.{Mutex}
-use Rattle.rules.specs.Table.{Table, taskOf, semaphoreOf, mutexOf, noTask, noMutex}
+use Rattle.rules.specs.declared.Group.{Group}
+use Rattle.rules.specs.Table.{Table, taskOf, semaphoreOf, mutexOf, groupOf, noTask, noMutex}
 use Rattle.rules.specs.Family.{lastState, ofState, objectsIn}
-use Rattle.rules.specs.Sound.{Each, each, implies, marksIn, SoundTask, SoundTasks, isSoundTask, isSoundSemaphore, SoundMutex, isSoundMutex, NotDue}
-use Rattle.rules.specs.Tested.{task-right, semaphore-right, mutex-right}
+use Rattle.rules.specs.Sound.{Each, each, implies, marksIn, asksIn, SoundTask, SoundTasks, isSoundTask, isSoundSemaphore, SoundMutex, isSoundMutex, isSoundGroup, NotDue}
+use Rattle.rules.specs.Tested.{task-right, semaphore-right, mutex-right, group-right}
 use Rattle.rules.specs.Decides.{Decides, equals, at-most, fails, if-so, first, last, both, each-one}
 use Rattle.sound.specs.Tests.{same-test, otherwise, unless}
 
@@ -39,8 +40,12 @@ hasSoundState k =
     && ((ltb delayed (k .state) || eqb (k .marked) (k .state))
     && (not (eqb (k .used) 0) || (eqb (k .state) 0 && eqb (k .outcome) 0))))))
 
+-- What it asks of flags, but for the mask.
+unfoldable pub hasSoundAsks : Task → Bool
+hasSoundAsks k = ltb (k .test) (asksIn (k .state) testCount) && ltb (k .consume) (asksIn (k .state) 2)
+
 abbrev pub hasSoundFields : Task → Bool
-hasSoundFields k = hasSoundLevels k && hasSoundState k
+hasSoundFields k = hasSoundLevels k && (hasSoundState k && hasSoundAsks k)
 
 -- Quantum and what is left of it.
 unfoldable pub hasSoundTurns : Task → Bool
@@ -49,6 +54,10 @@ hasSoundTurns k =
     && (leb (k .left) mostQuantum
     && (leb (k .left) (k .quantum)
     && (not (eqb (k .used) 0) || eqb (k .quantum) 0)))
+
+-- The mask: in range, and not 0 where it is asked for.
+abbrev pub hasSoundMask : Task → Bool
+hasSoundMask k = ltb (k .mask) (asksIn (k .state) flagSets) && implies (eqb (k .state) waitsFlags) (leb 1 (k .mask))
 
 -- The due mark: in range, and "no mark equals the tick counter".
 abbrev pub isMarkInRange : Task → Bool
@@ -70,6 +79,10 @@ one-object {o} {state} e h = let g : o < objectsIn 0 = rw e at h in omega arith
 one-mark : {due marked : ℕ} → marked ≡ 0 → due < marksIn marked → due ≡ 0
 unfolding marksIn
 one-mark {due} {marked} e h = let g : due < marksIn 0 = rw e at h in omega arith
+
+none-asked : (x state n : ℕ) → (state ≡ waitsFlags → ⊥) → x < asksIn state n → x ≡ 0
+unfolding asksIn
+none-asked x state n d h = let g : x < 1 = rw (ne-eqb state waitsFlags d) at h in omega arith
 
 module _ (k : Task) where
   record Levels : Type 0 where
@@ -108,6 +121,27 @@ module _ (k : Task) where
       last (λ r. r .free) (unless equals (both equals equals)) λ free.
       record { state = state; object = object; marked = marked; outcome = outcome; mark = mark; free = free }
 
+  record Asks : Type 0 where
+    test : k .test < asksIn (k .state) testCount
+    consume : k .consume < asksIn (k .state) 2
+
+  asks : Decides (hasSoundAsks k) Asks
+  unfolding hasSoundAsks
+  asks =
+      first (λ r. r .test) at-most λ test.
+      last (λ r. r .consume) at-most λ consume.
+      record { test = test; consume = consume }
+
+  record Mask : Type 0 where
+    mask : k .mask < asksIn (k .state) flagSets
+    some : k .state ≡ waitsFlags → 1 ≤ k .mask
+
+  masks : Decides (hasSoundMask k) Mask
+  masks =
+      first (λ r. r .mask) at-most λ mask.
+      last (λ r. r .some) (if-so equals at-most) λ some.
+      record { mask = mask; some = some }
+
   record Turns : Type 0 where
     quantum : k .quantum ≤ mostQuantum
     left : k .left ≤ mostQuantum
@@ -144,17 +178,24 @@ module _ (k : Task) where
       low (yes e) n = omega (arith, r .plainMark e)
       low (no d) n = let e : k .state ≡ delayed = omega arith in omega (arith, r .delayMark e)
 
+  asks-of : SoundTask k → Asks
+  asks-of r = record { test = r .inRange .test; consume = r .inRange .consume }
+
+  mask-of : SoundTask k → Mask
+  mask-of r = record { mask = r .inRange .mask; some = r .asks }
+
   turns-of : SoundTask k → Turns
   turns-of r = record { quantum = r .inRange .quantum; left = r .inRange .left; within = r .left; free = λ e. ap (λ (x : Task). x .quantum) (r .freeZero e) }
 
-  task-of : Levels → State → Turns → k .due < marksIn (k .marked) → SoundTask k
-  task-of v f u d =
+  task-of : Levels → State → Asks → Turns → Mask → k .due < marksIn (k .marked) → SoundTask k
+  task-of v f a u m d =
       record {
-        inRange = record { used = v .used; base = v .base; work = v .work; suspend = v .suspend; quantum = u .quantum; left = u .left; state = f .state; object = f .object; marked = f .marked; due = d; outcome = f .outcome };
+        inRange = record { used = v .used; base = v .base; work = v .work; suspend = v .suspend; quantum = u .quantum; left = u .left; state = f .state; object = f .object; marked = f .marked; due = d; outcome = f .outcome; mask = m .mask; test = a .test; consume = a .consume };
         freeZero = zero;
         plainMark = λ e. omega (arith, f .mark (λ l. omega arith));
         delayMark = λ e. omega (arith, f .mark (λ l. omega arith));
         left = u .within;
+        asks = m .some;
       }
     where
       zero : k .used ≡ 0 → k ≡ noTask
@@ -166,12 +207,32 @@ module _ (k : Task) where
           let quantum : k .quantum ≡ 0 = u .free e in
           let left : k .left ≡ 0 = omega (arith, u .within) in
           let due : k .due ≡ 0 = one-mark marked d in
-          λ i. record { used = e i; base = base i; work = work i; suspend = suspend i; quantum = quantum i; left = left i; state = state i; object = object i; marked = marked i; due = due i; outcome = outcome i }
+          let apart : k .state ≡ waitsFlags → ⊥ = λ w. omega arith in
+          let mask : k .mask ≡ 0 = none-asked (k .mask) (k .state) flagSets apart (m .mask) in
+          let test : k .test ≡ 0 = none-asked (k .test) (k .state) testCount apart (a .test) in
+          let consume : k .consume ≡ 0 = none-asked (k .consume) (k .state) 2 apart (a .consume) in
+          λ i. record { used = e i; base = base i; work = work i; suspend = suspend i; quantum = quantum i; left = left i; state = state i; object = object i; marked = marked i; due = due i; outcome = outcome i; mask = mask i; test = test i; consume = consume i }
 
   -- As the code asks, of numbers that fit their bytes.
   pub turns-row : k .quantum ≤ mostQuantum → k .left ≤ mostQuantum → leb (k .left) (k .quantum) && (not (eqb (k .used) 0) || eqb (k .quantum) 0) ≡ hasSoundTurns k
   unfolding hasSoundTurns
   turns-row p q = rw (le-leb (k .quantum) mostQuantum p, le-leb (k .left) mostQuantum q)
+
+  pub mask-row : k .mask < flagSets → (eqb (k .state) waitsFlags || eqb (k .mask) 0) && (not (eqb (k .state) waitsFlags) || not (eqb (k .mask) 0)) ≡ hasSoundMask k
+  unfolding asksIn
+  mask-row h =
+      same-test
+      (first (λ r d. none-asked (k .mask) (k .state) flagSets d (r .mask)) (otherwise equals equals) λ none.
+      last has (unless equals (fails equals)) λ some.
+      record { mask = within (ℕ-discrete (k .state) waitsFlags) none; some = λ e. omega (arith, pos-of-ne-zero (some e)) })
+      masks
+    where
+      has : Mask → k .state ≡ waitsFlags → k .mask ≡ 0 → ⊥
+      has r e z = omega (arith, r .some e)
+
+      within : Dec (k .state ≡ waitsFlags) → ((k .state ≡ waitsFlags → ⊥) → k .mask ≡ 0) → k .mask < asksIn (k .state) flagSets
+      within (yes e) none = rw (eq-eqb (k .state) waitsFlags e) h
+      within (no n) none = rw (ne-eqb (k .state) waitsFlags n) (omega (arith, none n))
 
   pub mark-row : (tick : ℕ) → k .due < ticksRound → (not (eqb (k .marked) 0) || eqb (k .due) 0) && (not (eqb (k .marked) 1) || not (eqb (k .due) tick)) ≡ hasSoundMark tick k
   unfolding marksIn
@@ -206,23 +267,26 @@ module _ (t : Table) where
 
   rows-say : Decides (each taskCount (λ i. hasSoundFields (taskOf t i))
       && (each taskCount (λ i. hasSoundTurns (taskOf t i))
-      && (ltb (t .tick) ticksRound && each taskCount (λ i. hasSoundMark (t .tick) (taskOf t i))))) (SoundTasks t × TimesSound t)
+      && (each taskCount (λ i. hasSoundMask (taskOf t i))
+      && (ltb (t .tick) ticksRound && each taskCount (λ i. hasSoundMark (t .tick) (taskOf t i)))))) (SoundTasks t × TimesSound t)
   rows-say =
-      first fields (each-one (λ i l. both (levels (taskOf t i)) (states (taskOf t i)))) λ f.
+      first fields (each-one (λ i l. both (levels (taskOf t i)) (both (states (taskOf t i)) (asks (taskOf t i))))) λ f.
       first (λ r i l. turns-of (taskOf t i) (r .0 i l)) (each-one (λ i l. turns (taskOf t i))) λ u.
+      first (λ r i l. mask-of (taskOf t i) (r .0 i l)) (each-one (λ i l. masks (taskOf t i))) λ k.
       first (λ r. r .1 .1) at-most λ tick.
       last marks (each-one (λ i l. both at-most (if-so equals (fails equals)))) λ m.
-      ((λ i l. task-of (taskOf t i) (f i l .0) (f i l .1) (u i l) (m i l .0)), ((λ i l. m i l .1), tick))
+      ((λ i l. task-of (taskOf t i) (f i l .0) (f i l .1 .0) (f i l .1 .1) (u i l) (k i l) (m i l .0)), ((λ i l. m i l .1), tick))
     where
-      fields : SoundTasks t × TimesSound t → Each taskCount (λ i. Levels (taskOf t i) × State (taskOf t i))
-      fields r i l = (levels-of (taskOf t i) (r .0 i l), state-of (taskOf t i) (r .0 i l))
+      fields : SoundTasks t × TimesSound t → Each taskCount (λ i. Levels (taskOf t i) × (State (taskOf t i) × Asks (taskOf t i)))
+      fields r i l = (levels-of (taskOf t i) (r .0 i l), (state-of (taskOf t i) (r .0 i l), asks-of (taskOf t i) (r .0 i l)))
 
       marks : SoundTasks t × TimesSound t → Each taskCount (λ i. (taskOf t i .due < marksIn (taskOf t i .marked)) × (taskOf t i .marked ≡ 1 → taskOf t i .due ≡ t .tick → ⊥))
       marks (tasks, (notDue, tick)) i l = (tasks i l .inRange .due, notDue i l)
 
   pub tasks-rows : each taskCount (λ i. hasSoundFields (taskOf t i))
       && (each taskCount (λ i. hasSoundTurns (taskOf t i))
-      && (ltb (t .tick) ticksRound && each taskCount (λ i. hasSoundMark (t .tick) (taskOf t i))))
+      && (each taskCount (λ i. hasSoundMask (taskOf t i))
+      && (ltb (t .tick) ticksRound && each taskCount (λ i. hasSoundMark (t .tick) (taskOf t i)))))
       ≡ areTasksSound t
   tasks-rows = same-test rows-say tasks-say
 
@@ -230,9 +294,9 @@ module _ (t : Table) where
 
 -- The rules' own: each object by itself.
 abbrev pub areObjectsSound : Table → Bool
-areObjectsSound t = each semaphoreCount (λ i. isSoundSemaphore (semaphoreOf t i)) && each mutexCount (λ i. isSoundMutex (mutexOf t i))
+areObjectsSound t = each semaphoreCount (λ i. isSoundSemaphore (semaphoreOf t i)) && (each mutexCount (λ i. isSoundMutex (mutexOf t i)) && each groupCount (λ i. isSoundGroup (groupOf t i)))
 
--- A free number has zero fields; every count of 32 bits is in range.
+-- A free number has zero fields; every count and every set of flags of 32 bits is in range.
 pub semaphore-row : (x : Semaphore) → x .count ≤ mostCount → leb (x .used) 1 && (not (eqb (x .used) 0) || eqb (x .count) 0) ≡ isSoundSemaphore x
 semaphore-row x c =
     same-test
@@ -240,6 +304,14 @@ semaphore-row x c =
     last (λ r e. ap (λ (y : Semaphore). y .count) (r .free e)) (unless equals equals) λ free.
     record { used = used; count = c; free = λ e i. record { used = e i; count = free e i } })
     (semaphore-right x)
+
+pub group-row : (x : Group) → x .flags < flagSets → leb (x .used) 1 && (not (eqb (x .used) 0) || eqb (x .flags) 0) ≡ isSoundGroup x
+group-row x c =
+    same-test
+    (first (λ r. r .used) at-most λ used.
+    last (λ r e. ap (λ (y : Group). y .flags) (r .free e)) (unless equals equals) λ free.
+    record { used = used; flags = c; free = λ e i. record { used = e i; flags = free e i } })
+    (group-right x)
 
 -- What is held is in use, and so a free number has no holder.
 pub mutex-row : (x : Mutex)

@@ -147,10 +147,13 @@ module _ {t : Table} (tasks : SoundTasks t) (s : SoundQueues t) where
   stranger : Each mutexCount (Apart t) → (i : ℕ) → i < taskCount → (o : ℕ) → (f : Family) → Among f families
       → placeOf (taskOf t i) ≡ waitersOf f o → o < f .count → (f .offers t o ≡ true → ⊥) → f .holder t o ≡ i → ⊥
   unfolding holderOf
-  stranger apart i l o = of-families _ (λ p b n e. omega arith) λ p b n e.
-      let d : mutexOf t o .holder ≢ 0 = λ z. n (eq-eqb _ _ z) in
-      let own : mutexOf t o .holder - 1 ≡ i = rw (ne-eqb (mutexOf t o .holder) 0 d) at e in
-      apart o b d .1 (ap (λ (j : ℕ). placeOf (taskOf t j)) own ∙ p)
+  stranger apart i l o = of-families _ (λ p b n e. omega arith) own (λ p b n e. omega arith)
+    where
+      own : placeOf (taskOf t i) ≡ waitersOf mutexes o → o < mutexCount → (eqb (mutexOf t o .holder) 0 ≡ true → ⊥) → holderOf t o ≡ i → ⊥
+      own p b n e =
+          let d : mutexOf t o .holder ≢ 0 = λ z. n (eq-eqb _ _ z) in
+          let same : mutexOf t o .holder - 1 ≡ i = rw (ne-eqb (mutexOf t o .holder) 0 d) at e in
+          apart o b d .1 (ap (λ (j : ℕ). placeOf (taskOf t j)) same ∙ p)
 
   front-waits : Each queueCount (λ q. firstIn q t ≢ 0 → Awaited t q) → Each mutexCount (Apart t) → Waits t
   front-waits fronts apart i l f a e =

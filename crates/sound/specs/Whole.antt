@@ -6,9 +6,9 @@ use Prim.Native.Nat.{ℕ, _+_, _-_}
 use native.Mathlib.Omega.{arith}
 use lib.Dec.{eqb, leb, ltb}
 use borrow.Author.Tests.{eq-eqb, ne-eqb, le-leb}
-use Rattle.rules.specs.Sizes.{taskCount, semaphoreCount, mutexCount, mostNested, ticksRound}
-use Rattle.rules.specs.Table.{Table, taskOf, semaphoreOf, mutexOf, queueCount, ableQueue, firstIn, isAble}
-use Rattle.rules.specs.Sound.{Each, each, Shaped, SoundTasks, SoundQueues, isSoundTask, isSoundSemaphore, isSoundMutex, isSoundQueues, isWorkedOut, isSoundRuns, isSoundObjects, isSoundWithin, isSound}
+use Rattle.rules.specs.Sizes.{taskCount, semaphoreCount, mutexCount, groupCount, mostNested, ticksRound}
+use Rattle.rules.specs.Table.{Table, taskOf, semaphoreOf, mutexOf, groupOf, queueCount, ableQueue, firstIn, isAble}
+use Rattle.rules.specs.Sound.{Each, each, Shaped, SoundTasks, SoundQueues, isSoundTask, isSoundSemaphore, isSoundMutex, isSoundGroup, isSoundQueues, isWorkedOut, isSoundRuns, isSoundObjects, isSoundWithin, isSound}
 use Rattle.rules.specs.Tested.{queued}
 use Rattle.rules.specs.Decides.{Decides, itself, first, last, both, each-one}
 use Rattle.sound.specs.Tests.{same-test}
@@ -105,16 +105,16 @@ module _ (t : Table) where
 -- ---- all of it
 
 -- The tests in the order of the code and in that of the rules.
-reordered : (tasks notDue tick semaphores mutexes queues waits holders works depth runs : Bool)
-    → (tasks && (notDue && tick)) && ((semaphores && mutexes) && ((queues && (waits && holders)) && (works && (depth && runs))))
-    ≡ (queues && (works && (tasks && ((semaphores && (mutexes && (waits && holders))) && (tick && depth))))) && (notDue && runs)
-reordered tasks notDue tick semaphores mutexes queues waits holders works depth runs =
+reordered : (tasks notDue tick semaphores mutexes groups queues waits holders works depth runs : Bool)
+    → (tasks && (notDue && tick)) && ((semaphores && (mutexes && groups)) && ((queues && (waits && holders)) && (works && (depth && runs))))
+    ≡ (queues && (works && (tasks && ((semaphores && (mutexes && (groups && (waits && holders)))) && (tick && depth))))) && (notDue && runs)
+reordered tasks notDue tick semaphores mutexes groups queues waits holders works depth runs =
     same-test
-    (both (both (is tasks) (both (is notDue) (is tick))) (both (both (is semaphores) (is mutexes)) (both (both (is queues) (both (is waits) (is holders))) (both (is works) (both (is depth) (is runs))))))
+    (both (both (is tasks) (both (is notDue) (is tick))) (both (both (is semaphores) (both (is mutexes) (is groups))) (both (both (is queues) (both (is waits) (is holders))) (both (is works) (both (is depth) (is runs))))))
     (last
-    (λ ((ts, (nd, ti)), ((se, mu), ((qs, (wa, ho)), (wo, (de, ru))))). ((qs, (wo, (ts, ((se, (mu, (wa, ho))), (ti, de))))), (nd, ru)))
-    (both (both (is queues) (both (is works) (both (is tasks) (both (both (is semaphores) (both (is mutexes) (both (is waits) (is holders)))) (both (is tick) (is depth)))))) (both (is notDue) (is runs)))
-    (λ ((qs, (wo, (ts, ((se, (mu, (wa, ho))), (ti, de))))), (nd, ru)). ((ts, (nd, ti)), ((se, mu), ((qs, (wa, ho)), (wo, (de, ru)))))))
+    (λ ((ts, (nd, ti)), ((se, (mu, gr)), ((qs, (wa, ho)), (wo, (de, ru))))). ((qs, (wo, (ts, ((se, (mu, (gr, (wa, ho)))), (ti, de))))), (nd, ru)))
+    (both (both (is queues) (both (is works) (both (is tasks) (both (both (is semaphores) (both (is mutexes) (both (is groups) (both (is waits) (is holders))))) (both (is tick) (is depth)))))) (both (is notDue) (is runs)))
+    (λ ((qs, (wo, (ts, ((se, (mu, (gr, (wa, ho)))), (ti, de))))), (nd, ru)). ((ts, (nd, ti)), ((se, (mu, gr)), ((qs, (wa, ho)), (wo, (de, ru)))))))
   where
     is : (b : Bool) → Decides b (b ≡ true)
     is b = itself
@@ -128,6 +128,7 @@ sound-parts t =
     (ltb (t .tick) ticksRound)
     (each semaphoreCount (λ i. isSoundSemaphore (semaphoreOf t i)))
     (each mutexCount (λ i. isSoundMutex (mutexOf t i)))
+    (each groupCount (λ i. isSoundGroup (groupOf t i)))
     (isSoundQueues t)
     (areWaitsSound t)
     (areHoldersUsed t)

@@ -4,6 +4,7 @@ ghost use Rattle.rules.specs.Sound.{isSound};
 ghost use Rattle.table.specs.Image.{Image, view};
 ghost use Rattle.sound.specs.Whole.{mayRun, isRunSound};
 
+mod groups;
 mod mutexes;
 mod objects;
 mod queues;

@@ -6,11 +6,11 @@ ghost use lib.Dec.{eqb};
 ghost use lib.ListN.{length, getD};
 ghost use Rattle.queue.specs.Order.{one, count};
 ghost use Rattle.rules.specs.Sizes.{taskCount, mutexCount};
-ghost use Rattle.rules.specs.Table.{taskOf, queueOf, queueCount};
+ghost use Rattle.rules.specs.Table.{taskOf, queueOf, queueCount, ableQueue};
 ghost use Rattle.rules.specs.Family.{placeOf};
 ghost use Rattle.rules.specs.Sound.{each, SoundTasks};
 ghost use Rattle.table.specs.Image.{Image, view};
-ghost use Rattle.sound.specs.Packed.{frees, slotCount};
+ghost use Rattle.sound.specs.Packed.{ofFive, frees, slotCount};
 ghost use Rattle.sound.specs.Queues.{Spotted, isMet};
 ghost use Rattle.sound.specs.Waits.{isHolderSound};
 ghost use Rattle.sound.specs.Whole.{areQueuesSound};
@@ -21,8 +21,8 @@ use table::mutexes;
 
 const ALL_SLOTS: usize = layout::QUEUES * layout::SLOTS;
 
-// The queues by three.
-const THREES: usize = layout::QUEUES / 3;
+// The queues of the objects, by five.
+const FIVES: usize = (layout::QUEUES - layout::SEMAPHORE_QUEUE) / 5;
 
 fn pick(b: bool, x: u8, y: u8) -> u8
     ensures { λ r. ⌜ r ≡ cond b x y ⌝ }
@@ -33,14 +33,18 @@ fn pick(b: bool, x: u8, y: u8) -> u8
     y
 }
 
-// The queue where task i stands, 33 for none: no branch, so that the compiler takes many tasks at once.
+// The queue where task i stands, 41 for none: no branch, so that the compiler takes many tasks at once.
 fn spot_of(s: &[u8], i: usize) -> u8
     requires { ⌜ (i < taskCount) × Image (now s) × SoundTasks (view (now s)) ⌝ }
     ensures { λ r. ⌜ r ≡ placeOf (taskOf (view (now (s .entry))) i) ⌝ }
 {
     let state = table::tasks::get_state(s, i);
     let object = table::tasks::get_object(s, i);
-    let waits = pick(state == 2, 1 + object, pick(state == 3, 17 + object, 33));
+    let waits = pick(
+        state == 2,
+        1 + object,
+        pick(state == 3, 17 + object, pick(state == 4, 33 + object, 41)),
+    );
     pick(moves::is_able(s, i), 0, waits)
 }
 
@@ -92,7 +96,7 @@ fn are_all_met(spots: &[u8]) -> bool
     let mut all = true;
     let mut i = 0;
     while i < layout::TASKS {
-        all = (33 <= spots[i]) & all;
+        all = (41 <= spots[i]) & all;
         i += 1;
     }
     all
@@ -109,15 +113,39 @@ fn free_at(s: &[u8], q: usize, j: usize) -> u8
     0
 }
 
-// The free slots of three queues: no branch, and few enough for a byte, so that the compiler counts many at once.
-fn free_in_three(s: &[u8], q: usize) -> u8
-    requires { ⌜ (q + 2 < queueCount) × Image (now s) ⌝ }
-    ensures { λ r. ⌜ r ≡ count 0 (queueOf (view (now (s .entry))) q) + (count 0 (queueOf (view (now (s .entry))) (q + 1)) + count 0 (queueOf (view (now (s .entry))) (q + 2))) ⌝ }
+// The free slots of the able queue.
+fn free_in_able(s: &[u8]) -> u8
+    requires { ⌜ Image (now s) ⌝ }
+    ensures { λ r. ⌜ r ≡ count 0 (queueOf (view (now (s .entry))) ableQueue) ⌝ }
 {
     let mut n: u8 = 0;
     let mut j = 0;
     while j < layout::SLOTS {
-        n += free_at(s, q, j) + (free_at(s, q + 1, j) + free_at(s, q + 2, j));
+        n += free_at(s, layout::ABLE_QUEUE, j);
+        j += 1;
+    }
+    n
+}
+
+// How many of the slots j of five queues are free.
+fn free_at_five(s: &[u8], q: usize, j: usize) -> u8
+    requires { ⌜ (q + 4 < queueCount) × (j < taskCount) × Image (now s) ⌝ }
+    ensures { λ r. ⌜ (r ≡ ofFive (λ p. one 0 (getD (queueOf (view (now (s .entry))) p) j 0)) q) × (r ≤ 5) ⌝ }
+{
+    free_at(s, q, j)
+        + (free_at(s, q + 1, j)
+            + (free_at(s, q + 2, j) + (free_at(s, q + 3, j) + free_at(s, q + 4, j))))
+}
+
+// The free slots of five queues: no branch, and few enough for a byte, so that the compiler counts many at once.
+fn free_in_five(s: &[u8], q: usize) -> u8
+    requires { ⌜ (q + 4 < queueCount) × Image (now s) ⌝ }
+    ensures { λ r. ⌜ r ≡ ofFive (λ p. count 0 (queueOf (view (now (s .entry))) p)) q ⌝ }
+{
+    let mut n: u8 = 0;
+    let mut j = 0;
+    while j < layout::SLOTS {
+        n += free_at_five(s, q, j);
         j += 1;
     }
     n
@@ -128,10 +156,10 @@ fn are_others_free(s: &[u8], n: usize) -> bool
     requires { ⌜ (n ≤ slotCount + 1 + slotCount) × Image (now s) ⌝ }
     ensures { λ r. ⌜ r ≡ eqb (n + frees queueCount (view (now (s .entry)))) slotCount ⌝ }
 {
-    let mut m = n;
+    let mut m = n + free_in_able(s) as usize;
     let mut i = 0;
-    while i < THREES {
-        m += free_in_three(s, 3 * i) as usize;
+    while i < FIVES {
+        m += free_in_five(s, layout::SEMAPHORE_QUEUE + 5 * i) as usize;
         if ALL_SLOTS < m {
             return false;
         }
@@ -145,7 +173,7 @@ pub fn are_queues_right(s: &[u8]) -> bool
     requires { ⌜ Image (now s) × SoundTasks (view (now s)) ⌝ }
     ensures { λ r. ⌜ r ≡ areQueuesSound (view (now (s .entry))) ⌝ }
 {
-    let mut spots = [33u8; 32];
+    let mut spots = [41u8; 32];
     fill_spots(s, &mut spots);
     let held = are_holders_right(s, &spots);
     let n = walk::walk_queues(s, &mut spots);

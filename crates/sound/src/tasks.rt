@@ -6,9 +6,9 @@ ghost use lib.Dec.{ltb};
 ghost use Rattle.rules.specs.Sizes.{taskCount, ticksRound};
 ghost use Rattle.rules.specs.Table.{taskOf};
 ghost use Rattle.rules.specs.Family.{objectsIn};
-ghost use Rattle.rules.specs.Sound.{each};
+ghost use Rattle.rules.specs.Sound.{each, asksIn};
 ghost use Rattle.table.specs.Image.{Image, view};
-ghost use Rattle.sound.specs.Rows.{hasSoundLevels, hasSoundState, hasSoundFields, hasSoundTurns, hasSoundMark, areTasksSound};
+ghost use Rattle.sound.specs.Rows.{hasSoundLevels, hasSoundState, hasSoundAsks, hasSoundFields, hasSoundTurns, hasSoundMark, hasSoundMask, areTasksSound};
 use table::layout;
 use table::numbers;
 
@@ -21,6 +21,19 @@ fn objects_in(state: u8) -> u8
     }
     if state == 3 {
         return 16;
+    }
+    if state == 4 {
+        return 8;
+    }
+    1
+}
+
+// How many numbers what is asked of flags may have: n, and none but 0 where the task waits for no flags.
+fn asks_in(state: u8, n: u8) -> u8
+    ensures { λ r. ⌜ r ≡ asksIn state n ⌝ }
+{
+    if state == 4 {
+        return n;
     }
     1
 }
@@ -50,8 +63,19 @@ fn has_right_state(s: &[u8], i: usize) -> bool
     let outcome = table::tasks::get_outcome(s, i);
     let free = (used != 0) | ((state == 0) & (outcome == 0));
     let timed = (1 < state) | (marked == state);
-    (state <= 3)
+    (state <= 4)
         & ((object < objects_in(state)) & ((marked <= 1) & ((outcome <= 3) & (timed & free))))
+}
+
+// The test that it waits for, and whether it consumes the flags.
+fn has_right_asks(s: &[u8], i: usize) -> bool
+    requires { ⌜ (i < taskCount) × Image (now s) ⌝ }
+    ensures { λ r. ⌜ r ≡ hasSoundAsks (taskOf (view (now (s .entry))) i) ⌝ }
+{
+    let state = table::tasks::get_state(s, i);
+    let test = table::tasks::get_test(s, i);
+    let consume = table::tasks::get_consume(s, i);
+    (test < asks_in(state, 4)) & (consume < asks_in(state, 2))
 }
 
 // The fields of one byte.
@@ -62,7 +86,7 @@ fn are_fields_right(s: &[u8]) -> bool
     let mut all = true;
     let mut i = 0;
     while i < layout::TASKS {
-        all = (has_right_levels(s, i) & has_right_state(s, i)) & all;
+        all = (has_right_levels(s, i) & (has_right_state(s, i) & has_right_asks(s, i))) & all;
         i += 1;
     }
     all
@@ -118,10 +142,34 @@ fn are_marks_right(s: &[u8]) -> bool
     all
 }
 
+// Who waits for flags, and nobody else, has a mask.
+fn has_right_mask(s: &[u8], i: usize) -> bool
+    requires { ⌜ (i < taskCount) × Image (now s) ⌝ }
+    ensures { λ r. ⌜ r ≡ hasSoundMask (taskOf (view (now (s .entry))) i) ⌝ }
+{
+    let state = table::tasks::get_state(s, i);
+    let mask = table::tasks::get_mask(s, i);
+    ((state == 4) | (mask == 0)) & ((state != 4) | (mask != 0))
+}
+
+// The masks.
+fn are_masks_right(s: &[u8]) -> bool
+    requires { ⌜ Image (now s) ⌝ }
+    ensures { λ r. ⌜ r ≡ each taskCount (λ i. hasSoundMask (taskOf (view (now (s .entry))) i)) ⌝ }
+{
+    let mut all = true;
+    let mut i = 0;
+    while i < layout::TASKS {
+        all = has_right_mask(s, i) & all;
+        i += 1;
+    }
+    all
+}
+
 // Each task by itself, and no mark is due.
 pub fn are_tasks_right(s: &[u8]) -> bool
     requires { ⌜ Image (now s) ⌝ }
     ensures { λ r. ⌜ r ≡ areTasksSound (view (now (s .entry))) ⌝ }
 {
-    are_fields_right(s) & (are_turns_right(s) & are_marks_right(s))
+    are_fields_right(s) & (are_turns_right(s) & (are_masks_right(s) & are_marks_right(s)))
 }

@@ -9,6 +9,7 @@ ghost use Rattle.table.specs.Image.{Image, view};
 ghost use Rattle.sound.specs.Lines.{mayStand};
 ghost use Rattle.sound.specs.Waits.{isAwaited};
 ghost use Rattle.sound.specs.Walks.{QueueWalked, QueuePassed, NextFront, AllWalked};
+use table::groups;
 use table::layout;
 use table::moves;
 use table::mutexes;
@@ -16,9 +17,6 @@ use table::semaphores;
 
 // More than all slots.
 const REFUSED: usize = layout::QUEUES * layout::SLOTS + 1;
-
-// The queue of the first mutex.
-const MUTEX_QUEUE: usize = 1 + layout::SEMAPHORES;
 
 // Whether v may stand next in queue q, behind a task of this key.
 fn may_stand(s: &[u8], spots: &[u8], q: usize, key: u8, v: u8) -> bool
@@ -55,7 +53,7 @@ fn walk_queue(s: &[u8], spots: &mut [u8], q: usize) -> u8
     j
 }
 
-// Whether the object of queue q is in use and has nothing to take; the able queue has none.
+// Whether the object of queue q is in use and has nothing to take; the able queue has none, and a group is only asked for its use.
 fn is_awaited(s: &[u8], q: usize) -> bool
     requires { ⌜ (q < queueCount) × Image (now s) ⌝ }
     ensures { λ r. ⌜ r ≡ isAwaited (view (now (s .entry))) q ⌝ }
@@ -63,12 +61,15 @@ fn is_awaited(s: &[u8], q: usize) -> bool
     if q == 0 {
         return true;
     }
-    if q <= layout::SEMAPHORES {
-        let o = q - 1;
+    if q < layout::MUTEX_QUEUE {
+        let o = q - layout::SEMAPHORE_QUEUE;
         return (semaphores::get_used(s, o) == 1) & (semaphores::get_count(s, o) == 0);
     }
-    let o = q - MUTEX_QUEUE;
-    (mutexes::get_used(s, o) == 1) & (mutexes::get_holder(s, o) != 0)
+    if q < layout::GROUP_QUEUE {
+        let o = q - layout::MUTEX_QUEUE;
+        return (mutexes::get_used(s, o) == 1) & (mutexes::get_holder(s, o) != 0);
+    }
+    groups::get_used(s, q - layout::GROUP_QUEUE) == 1
 }
 
 // The same as `walk_queue`, and 255 also where the queue's object may have no waiter.
@@ -85,7 +86,7 @@ fn pass_queue(s: &[u8], spots: &mut [u8], q: usize) -> u8
     walk_queue(s, spots, q)
 }
 
-// The first queue from q on that is not empty, 33 where there is none.
+// The first queue from q on that is not empty, QUEUES where there is none.
 fn next_front(s: &[u8], q: usize) -> usize
     requires { ⌜ (q ≤ queueCount) × Image (now s) ⌝ }
     ensures { λ r. ⌜ NextFront (view (now (s .entry))) q r ⌝ }

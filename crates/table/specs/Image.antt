@@ -12,6 +12,7 @@ use Rattle.rules.specs.Table.{Table, queueCount}
 use Rattle.table.specs.kinds.Task as task
 use Rattle.table.specs.kinds.Semaphore as semaphore
 use Rattle.table.specs.kinds.Mutex as mutex
+use Rattle.table.specs.kinds.Group as group
 
 -- ---- queues: a row of slots for each, which can be lent
 
@@ -19,7 +20,7 @@ abbrev pub slotCount : ℕ
 slotCount = taskCount
 
 abbrev pub queueFirst : ℕ
-queueFirst = mutex.kind .first + mutex.kind .wide
+queueFirst = group.kind .first + group.kind .wide
 
 abbrev pub queueColumns : List Column
 queueColumns = replicate queueCount (column 1 slotCount)
@@ -41,7 +42,7 @@ numberColumns = column 4 1 ∷ column 1 1 ∷ column 1 1 ∷ []
 -- ---- the image, and the table that it shows
 
 abbrev pub layout : List Column
-layout = task.widths ++ (semaphore.widths ++ (mutex.widths ++ (queueColumns ++ numberColumns)))
+layout = task.widths ++ (semaphore.widths ++ (mutex.widths ++ (group.widths ++ (queueColumns ++ numberColumns))))
 
 abbrev pub imageSize : ℕ
 imageSize = total layout
@@ -56,6 +57,7 @@ shown n =
       tasks = records task.kind n;
       semaphores = records semaphore.kind n;
       mutexes = records mutex.kind n;
+      groups = records group.kind n;
       queues = runOf queueFirst queueCount n;
       tick = entry n tickColumn 0;
       depth = entry n depthColumn 0;
@@ -71,8 +73,9 @@ numbersOf t =
     columnsOf task.kind (t .tasks)
     ++ (columnsOf semaphore.kind (t .semaphores)
     ++ (columnsOf mutex.kind (t .mutexes)
+    ++ (columnsOf group.kind (t .groups)
     ++ (t .queues
-    ++ ((t .tick ∷ []) ∷ (t .depth ∷ []) ∷ (t .running ∷ []) ∷ []))))
+    ++ ((t .tick ∷ []) ∷ (t .depth ∷ []) ∷ (t .running ∷ []) ∷ [])))))
 
 unfoldable pub imageOf : Table → List ℕ
 imageOf t = image layout (numbersOf t)

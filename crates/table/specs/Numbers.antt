@@ -15,6 +15,7 @@ use Rattle.rules.specs.Table.{queueCount, withTick, withDepth, withRunning}
 use Rattle.table.specs.kinds.Task as task
 use Rattle.table.specs.kinds.Semaphore as semaphore
 use Rattle.table.specs.kinds.Mutex as mutex
+use Rattle.table.specs.kinds.Group as group
 use Rattle.table.specs.Image.{queueFirst, tickColumn, depthColumn, runningColumn, layout, Image, view}
 
 -- ---- what is read
@@ -74,6 +75,7 @@ module _ (l m : List ℕ) (v : ℕ) (h : Image l) where
         tasks = others-kept tickColumn v l h tick-even (omega arith) f task.kind (omega arith) x;
         semaphores = others-kept tickColumn v l h tick-even (omega arith) f semaphore.kind (omega arith) x;
         mutexes = others-kept tickColumn v l h tick-even (omega arith) f mutex.kind (omega arith) x;
+        groups = others-kept tickColumn v l h tick-even (omega arith) f group.kind (omega arith) x;
         queues = queues-kept tickColumn v l h tick-even (omega arith) f x;
         tick = number-put tickColumn v l h tick-even (omega arith) f x;
         depth = number-kept tickColumn v l h tick-even (omega arith) f depthColumn (inr (omega arith)) x;
@@ -87,6 +89,7 @@ module _ (l m : List ℕ) (v : ℕ) (h : Image l) where
         tasks = others-kept depthColumn v l h depth-even (omega arith) f task.kind (omega arith) x;
         semaphores = others-kept depthColumn v l h depth-even (omega arith) f semaphore.kind (omega arith) x;
         mutexes = others-kept depthColumn v l h depth-even (omega arith) f mutex.kind (omega arith) x;
+        groups = others-kept depthColumn v l h depth-even (omega arith) f group.kind (omega arith) x;
         queues = queues-kept depthColumn v l h depth-even (omega arith) f x;
         tick = number-kept depthColumn v l h depth-even (omega arith) f tickColumn (inl (omega arith)) x;
         depth = number-put depthColumn v l h depth-even (omega arith) f x;
@@ -100,6 +103,7 @@ module _ (l m : List ℕ) (v : ℕ) (h : Image l) where
         tasks = others-kept runningColumn v l h running-even (omega arith) f task.kind (omega arith) x;
         semaphores = others-kept runningColumn v l h running-even (omega arith) f semaphore.kind (omega arith) x;
         mutexes = others-kept runningColumn v l h running-even (omega arith) f mutex.kind (omega arith) x;
+        groups = others-kept runningColumn v l h running-even (omega arith) f group.kind (omega arith) x;
         queues = queues-kept runningColumn v l h running-even (omega arith) f x;
         tick = number-kept runningColumn v l h running-even (omega arith) f tickColumn (inl (omega arith)) x;
         depth = number-kept runningColumn v l h running-even (omega arith) f depthColumn (inl (omega arith)) x;

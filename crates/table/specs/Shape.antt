@@ -11,6 +11,7 @@ use Rattle.rules.specs.Sound.{Shaped}
 use Rattle.table.specs.kinds.Task as task
 use Rattle.table.specs.kinds.Semaphore as semaphore
 use Rattle.table.specs.kinds.Mutex as mutex
+use Rattle.table.specs.kinds.Group as group
 use Rattle.table.specs.Image.{layout, imageSize, Image, view}
 use Rattle.table.specs.Queues.{view-slots}
 
@@ -21,11 +22,12 @@ view-shaped l h =
       tasks = records-long task.kind (columns layout l);
       semaphores = records-long semaphore.kind (columns layout l);
       mutexes = records-long mutex.kind (columns layout l);
+      groups = records-long group.kind (columns layout l);
       queues = tabulate-long queueCount _;
       slots = view-slots l h;
     }
 
 -- The image of zeros is the fresh table.
 pub fresh-view : view (replicate imageSize 0) ≡ freshTable
-unfolding view freshTable records tabulate columns numbers word entry runOf task.made semaphore.made mutex.made
+unfolding view freshTable records tabulate columns numbers word entry runOf task.made semaphore.made mutex.made group.made
 fresh-view = refl

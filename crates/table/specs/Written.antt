@@ -12,17 +12,19 @@ use Rattle.columns.specs.Runs.{same-run, run-back}
 use Rattle.columns.specs.Views.{same-none, same-next, same-one, same-all}
 use Rattle.columns.specs.Words.{bytes-drop, bytes-take}
 use Rattle.columns.specs.Whole.{records-fit, fits-none, fits-kind, fits-run, fits-one, fits-all}
-use Rattle.rules.specs.Sizes.{taskCount, semaphoreCount, mutexCount}
-use Rattle.rules.specs.Table.{Table, queueCount, taskOf, semaphoreOf, mutexOf, queueOf}
+use Rattle.rules.specs.Sizes.{taskCount, semaphoreCount, mutexCount, groupCount}
+use Rattle.rules.specs.Table.{Table, queueCount, taskOf, semaphoreOf, mutexOf, groupOf, queueOf}
 use Rattle.rules.specs.Sound.{Each, Shaped, Sound}
 use Rattle.rules.specs.KindLaws.{all-at}
 use Rattle.rules.specs.Tape.{Bytes}
 use Rattle.table.specs.kinds.Task as task
 use Rattle.table.specs.kinds.Semaphore as semaphore
 use Rattle.table.specs.kinds.Mutex as mutex
+use Rattle.table.specs.kinds.Group as group
 use Rattle.table.specs.records.Task as task-record
 use Rattle.table.specs.records.Semaphore as semaphore-record
 use Rattle.table.specs.records.Mutex as mutex-record
+use Rattle.table.specs.records.Group as group-record
 use Rattle.table.specs.Image.{slotCount, queueFirst, tickColumn, depthColumn, runningColumn, layout, Image, view, numbersOf, imageOf}
 use Rattle.table.specs.Queues.{queue-wide, queue-even, queueAt, view-queue}
 use Rattle.table.specs.Shape.{view-shaped}
@@ -37,10 +39,11 @@ lossless l m h k b d e =
     (same-one layout l m depthColumn (ap (λ (t : Table). t .depth) e) refl
     (same-one layout l m tickColumn (ap (λ (t : Table). t .tick) e) refl
     (same-run layout l m queueFirst queueCount (ap (λ (t : Table). t .queues) e)
+    (same-next layout l m group.kind group-record.even (ap (λ (t : Table). t .groups) e)
     (same-next layout l m mutex.kind mutex-record.even (ap (λ (t : Table). t .mutexes) e)
     (same-next layout l m semaphore.kind semaphore-record.even (ap (λ (t : Table). t .semaphores) e)
     (same-next layout l m task.kind task-record.even (ap (λ (t : Table). t .tasks) e)
-    (same-none layout l m))))))))
+    (same-none layout l m)))))))))
     b d h k
 
 -- ---- the tables whose fields fit their bytes
@@ -50,6 +53,7 @@ pub record Fits (t : Table) : Type 0 where
   pub tasks : Each taskCount (λ i. task-record.Small (taskOf t i))
   pub semaphores : Each semaphoreCount (λ s. semaphore-record.Small (semaphoreOf t s))
   pub mutexes : Each mutexCount (λ m. mutex-record.Small (mutexOf t m))
+  pub groups : Each groupCount (λ g. group-record.Small (groupOf t g))
   pub queues : Each queueCount (λ q. Bytes (queueOf t q))
   pub tick : t .tick < 4294967296
   pub depth : t .depth < 256
@@ -57,13 +61,14 @@ pub record Fits (t : Table) : Type 0 where
 
 -- The table that an image of bytes shows fits.
 pub view-fits : (l : List ℕ) → Image l → Bytes l → Fits (view l)
-unfolding view task.made semaphore.made mutex.made
+unfolding view task.made semaphore.made mutex.made group.made
 view-fits l h b =
     record {
       shaped = view-shaped l h;
       tasks = λ i p. task-record.small _ (records-fit task.kind layout l b i p);
       semaphores = λ i p. semaphore-record.small _ (records-fit semaphore.kind layout l b i p);
       mutexes = λ i p. mutex-record.small _ (records-fit mutex.kind layout l b i p);
+      groups = λ i p. group-record.small _ (records-fit group.kind layout l b i p);
       queues = λ q p. subst Bytes (sym (view-queue l h q p)) (bytes-take slotCount (drop (queueAt q) l) (bytes-drop (queueAt q) l b));
       tick = entry-small layout l b tickColumn 0;
       depth = entry-small layout l b depthColumn 0;
@@ -79,6 +84,7 @@ sound-fits {t} s =
       tasks = λ i h. task-record.fits (taskOf t i) (s .settled .tasks i h .inRange);
       semaphores = λ i h. semaphore-record.fits (semaphoreOf t i) (s .settled .objects .semaphores i h);
       mutexes = λ i h. mutex-record.fits (mutexOf t i) (s .settled .objects .mutexes i h);
+      groups = λ i h. group-record.fits (groupOf t i) (s .settled .objects .groups i h);
       queues = λ q h j. omega (arith, all-at {P = λ v. v ≤ 32} (omega arith) (s .settled .queued .nothingElse q h) j);
       tick = s .settled .tick;
       depth = omega (arith, s .settled .depth);
@@ -101,11 +107,17 @@ module _ {t : Table} (f : Fits t) where
   abbrev ms : List (List ℕ)
   ms = columnsOf mutex.kind (t .mutexes)
 
+  abbrev gs : List (List ℕ)
+  gs = columnsOf group.kind (t .groups)
+
   abbrev ns : List (List ℕ)
   ns = (t .tick ∷ []) ∷ (t .depth ∷ []) ∷ (t .running ∷ []) ∷ []
 
+  abbrev past-gs : List (List ℕ)
+  past-gs = t .queues ++ ns
+
   abbrev past-ms : List (List ℕ)
-  past-ms = t .queues ++ ns
+  past-ms = gs ++ past-gs
 
   abbrev past-ss : List (List ℕ)
   past-ss = ms ++ past-ms
@@ -121,6 +133,9 @@ module _ {t : Table} (f : Fits t) where
 
   ms-long : length ms ≡ mutex.kind .wide
   ms-long = columns-of-long mutex.kind (t .mutexes)
+
+  gs-long : length gs ≡ group.kind .wide
+  gs-long = columns-of-long group.kind (t .groups)
 
   at-ts : Stands (task.kind .first) ts n
   unfolding numbersOf
@@ -140,28 +155,32 @@ module _ {t : Table} (f : Fits t) where
       past (semaphore.kind .wide + (mutex.kind .wide + a)) (task.kind .wide) ts p past-ts ts-long
       (past (mutex.kind .wide + a) (semaphore.kind .wide) ss p past-ss ss-long (past a (mutex.kind .wide) ms p past-ms ms-long s))
 
+  at-gs : Stands (group.kind .first) gs n
+  at-gs = behind 0 gs (here gs past-gs)
+
   at-qs : Stands queueFirst (t .queues) n
-  at-qs = behind 0 (t .queues) (here (t .queues) ns)
+  at-qs = behind (group.kind .wide) (t .queues) (past 0 (group.kind .wide) gs (t .queues) past-gs gs-long (here (t .queues) ns))
 
   at-ns : Stands tickColumn ns n
-  at-ns = behind queueCount ns (past 0 queueCount (t .queues) ns ns (f .shaped .queues) (last ns))
+  at-ns = behind (group.kind .wide + queueCount) ns (past queueCount (group.kind .wide) gs ns past-gs gs-long (past 0 queueCount (t .queues) ns ns (f .shaped .queues) (last ns)))
 
   long : length n ≡ length layout
   unfolding numbersOf
-  long = simp length-append (omega (arith, ts-long, ss-long, ms-long, f .shaped .queues))
+  long = simp length-append (omega (arith, ts-long, ss-long, ms-long, gs-long, f .shaped .queues))
 
   numbers-fit : Numbers layout n
-  unfolding task.made semaphore.made mutex.made
+  unfolding task.made semaphore.made mutex.made group.made
   numbers-fit =
       fits-all layout n long
       (fits-one layout n runningColumn (t .running) (at-ns 2 (omega arith)) refl (f .running)
       (fits-one layout n depthColumn (t .depth) (at-ns 1 (omega arith)) refl (f .depth)
       (fits-one layout n tickColumn (t .tick) (at-ns 0 (omega arith)) refl (f .tick)
       (fits-run layout n queueFirst queueCount slotCount queue-wide queue-even (t .queues) (f .shaped .queues) at-qs (f .shaped .slots) (f .queues)
+      (fits-kind layout n group.kind group-record.even (t .groups) at-gs (λ i p. group-record.small-fits _ (f .groups i p))
       (fits-kind layout n mutex.kind mutex-record.even (t .mutexes) at-ms (λ i p. mutex-record.small-fits _ (f .mutexes i p))
       (fits-kind layout n semaphore.kind semaphore-record.even (t .semaphores) at-ss (λ i p. semaphore-record.small-fits _ (f .semaphores i p))
       (fits-kind layout n task.kind task-record.even (t .tasks) at-ts (λ i p. task-record.small-fits _ (f .tasks i p))
-      (fits-none layout n))))))))
+      (fits-none layout n)))))))))
 
   pub image-length : Image (imageOf t)
   unfolding imageOf
@@ -176,6 +195,7 @@ module _ {t : Table} (f : Fits t) where
         tasks = records-back task.kind n (t .tasks) at-ts (f .shaped .tasks) x;
         semaphores = records-back semaphore.kind n (t .semaphores) at-ss (f .shaped .semaphores) x;
         mutexes = records-back mutex.kind n (t .mutexes) at-ms (f .shaped .mutexes) x;
+        groups = records-back group.kind n (t .groups) at-gs (f .shaped .groups) x;
         queues = run-back queueFirst queueCount n (t .queues) at-qs (f .shaped .queues) x;
         tick = ap (λ (c : List ℕ). getD c 0 0) (at-ns 0 (omega arith)) x;
         depth = ap (λ (c : List ℕ). getD c 0 0) (at-ns 1 (omega arith)) x;

@@ -2,3 +2,4 @@
 pub mod Task
 pub mod Semaphore
 pub mod Mutex
+pub mod Group

@@ -7,14 +7,18 @@ pub const SEMAPHORES: usize = 16;
 
 pub const MUTEXES: usize = 16;
 
-// The queue of the able tasks, then those of the semaphores and of the mutexes.
+pub const GROUPS: usize = 8;
+
+// The queue of the able tasks, then those of the semaphores, of the mutexes and of the groups.
 pub const ABLE_QUEUE: usize = 0;
 
 pub const SEMAPHORE_QUEUE: usize = ABLE_QUEUE + 1;
 
 pub const MUTEX_QUEUE: usize = SEMAPHORE_QUEUE + SEMAPHORES;
 
-pub const QUEUES: usize = MUTEX_QUEUE + MUTEXES;
+pub const GROUP_QUEUE: usize = MUTEX_QUEUE + MUTEXES;
+
+pub const QUEUES: usize = GROUP_QUEUE + GROUPS;
 
 pub const SLOTS: usize = TASKS;
 
@@ -35,14 +39,20 @@ pub const MARKED: usize = OBJECT + TASKS;
 
 pub const OUTCOME: usize = MARKED + TASKS;
 
-pub const QUANTUM: usize = OUTCOME + TASKS;
+pub const TEST: usize = OUTCOME + TASKS;
+
+pub const CONSUME: usize = TEST + TASKS;
+
+pub const QUANTUM: usize = CONSUME + TASKS;
 
 pub const LEFT: usize = QUANTUM + 2 * TASKS;
 
 pub const DUE: usize = LEFT + 2 * TASKS;
 
+pub const MASK: usize = DUE + 4 * TASKS;
+
 // Semaphores.
-pub const SEMAPHORE_USED: usize = DUE + 4 * TASKS;
+pub const SEMAPHORE_USED: usize = MASK + 4 * TASKS;
 
 pub const COUNT: usize = SEMAPHORE_USED + SEMAPHORES;
 
@@ -53,8 +63,13 @@ pub const HOLDER: usize = MUTEX_USED + MUTEXES;
 
 pub const NESTING: usize = HOLDER + MUTEXES;
 
+// Groups of flags.
+pub const GROUP_USED: usize = NESTING + MUTEXES;
+
+pub const FLAGS: usize = GROUP_USED + GROUPS;
+
 // Queue q stands SLOTS * q behind.
-pub const QUEUE: usize = NESTING + MUTEXES;
+pub const QUEUE: usize = FLAGS + 4 * GROUPS;
 
 // Single numbers.
 pub const TICK: usize = QUEUE + SLOTS * QUEUES;

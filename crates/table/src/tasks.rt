@@ -4,7 +4,7 @@ ghost use Prim.Native.Nat.{_<_};
 ghost use lib.ListN.{take};
 ghost use Rattle.columns.specs.Views.{withRow};
 ghost use Rattle.rules.specs.Sizes.{taskCount};
-ghost use Rattle.rules.specs.Table.{noTask, taskOf, withTask, withBase, withWork, withSuspend, withLeft, withState, withMark, withOutcome};
+ghost use Rattle.rules.specs.Table.{noTask, taskOf, withTask, withBase, withWork, withSuspend, withLeft, withState, withMark, withOutcome, asking, withAsked};
 ghost use Rattle.table.specs.kinds.Task.{kind, row};
 ghost use Rattle.table.specs.Image.{Image, view};
 use crate::layout;
@@ -86,6 +86,27 @@ pub fn get_due(s: &[u8], i: usize) -> u32
     columns::get4(s, layout::DUE, i)
 }
 
+pub fn get_mask(s: &[u8], i: usize) -> u32
+    requires { ⌜ (i < taskCount) × Image (now s) ⌝ }
+    ensures { λ r. ⌜ r ≡ taskOf (view (now (s .entry))) i .mask ⌝ }
+{
+    columns::get4(s, layout::MASK, i)
+}
+
+pub fn get_test(s: &[u8], i: usize) -> u8
+    requires { ⌜ (i < taskCount) × Image (now s) ⌝ }
+    ensures { λ r. ⌜ r ≡ taskOf (view (now (s .entry))) i .test ⌝ }
+{
+    columns::get1(s, layout::TEST, i)
+}
+
+pub fn get_consume(s: &[u8], i: usize) -> u8
+    requires { ⌜ (i < taskCount) × Image (now s) ⌝ }
+    ensures { λ r. ⌜ r ≡ taskOf (view (now (s .entry))) i .consume ⌝ }
+{
+    columns::get1(s, layout::CONSUME, i)
+}
+
 pub fn set_base(s: &mut [u8], i: usize, base: u8)
     requires { ⌜ (i < taskCount) × Image (now s) ⌝ }
     ensures { λ _. ⌜ view (now (s .exit)) ≡ withTask i (withBase base (taskOf (view (now (s .entry))) i)) (view (now (s .entry))) ⌝ }
@@ -122,13 +143,26 @@ pub fn set_outcome(s: &mut [u8], i: usize, outcome: u8)
     columns::put1(s, layout::OUTCOME, i, outcome);
 }
 
-// The state, with the number of the object waited for, 0 where none is.
+// The state, with the number of the object waited for, 0 where none is; nothing is asked of flags.
 pub fn set_state(s: &mut [u8], i: usize, state: u8, object: u8)
     requires { ⌜ (i < taskCount) × Image (now s) ⌝ }
     ensures { λ _. ⌜ view (now (s .exit)) ≡ withTask i (withState state object (taskOf (view (now (s .entry))) i)) (view (now (s .entry))) ⌝ }
 {
     columns::put1(s, layout::STATE, i, state);
     columns::put1(s, layout::OBJECT, i, object);
+    columns::put1(s, layout::TEST, i, 0);
+    columns::put1(s, layout::CONSUME, i, 0);
+    columns::put4(s, layout::MASK, i, 0);
+}
+
+// What is asked of the flags that it waits for.
+pub fn set_asked(s: &mut [u8], i: usize, mask: u32, test: u8, consume: u8)
+    requires { ⌜ (i < taskCount) × Image (now s) ⌝ }
+    ensures { λ _. ⌜ view (now (s .exit)) ≡ withTask i (withAsked (asking mask test consume) (taskOf (view (now (s .entry))) i)) (view (now (s .entry))) ⌝ }
+{
+    columns::put1(s, layout::TEST, i, test);
+    columns::put1(s, layout::CONSUME, i, consume);
+    columns::put4(s, layout::MASK, i, mask);
 }
 
 // 1 and the due mark, or 0 and 0 for none.
@@ -156,11 +190,14 @@ pub fn no_task() -> rules::Task
         marked: 0,
         due: 0,
         outcome: 0,
+        mask: 0,
+        test: 0,
+        consume: 0,
     }
 }
 
-// A whole record, of a task that is created or cleared. It takes two functions: the prover looks back over six stores at most.
-fn store_bytes(s: &mut [u8], i: usize, k: rules::Task)
+// A whole record, of a task that is created or cleared. It takes three functions: the prover looks back over six stores at most.
+fn store_first(s: &mut [u8], i: usize, k: rules::Task)
     requires { ⌜ (i < taskCount) × Image (now s) ⌝ }
     ensures { λ _. ⌜ view (now (s .exit)) ≡ withTask i (withRow kind 0 (take 6 (row k)) (taskOf (view (now (s .entry))) i)) (view (now (s .entry))) ⌝ }
 {
@@ -172,14 +209,24 @@ fn store_bytes(s: &mut [u8], i: usize, k: rules::Task)
     columns::put1(s, layout::OBJECT, i, k.object);
 }
 
+fn store_bytes(s: &mut [u8], i: usize, k: rules::Task)
+    requires { ⌜ (i < taskCount) × Image (now s) ⌝ }
+    ensures { λ _. ⌜ view (now (s .exit)) ≡ withTask i (withRow kind 0 (take 10 (row k)) (taskOf (view (now (s .entry))) i)) (view (now (s .entry))) ⌝ }
+{
+    store_first(s, i, k);
+    columns::put1(s, layout::MARKED, i, k.marked);
+    columns::put1(s, layout::OUTCOME, i, k.outcome);
+    columns::put1(s, layout::TEST, i, k.test);
+    columns::put1(s, layout::CONSUME, i, k.consume);
+}
+
 pub fn store(s: &mut [u8], i: usize, k: rules::Task)
     requires { ⌜ (i < taskCount) × Image (now s) ⌝ }
     ensures { λ _. ⌜ view (now (s .exit)) ≡ withTask i k (view (now (s .entry))) ⌝ }
 {
     store_bytes(s, i, k);
-    columns::put1(s, layout::MARKED, i, k.marked);
-    columns::put1(s, layout::OUTCOME, i, k.outcome);
     columns::put2(s, layout::QUANTUM, i, k.quantum);
     columns::put2(s, layout::LEFT, i, k.left);
     columns::put4(s, layout::DUE, i, k.due);
+    columns::put4(s, layout::MASK, i, k.mask);
 }

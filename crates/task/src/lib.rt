@@ -38,6 +38,9 @@ fn new_task(base: u8, quantum: u16) -> rules::Task
         marked: 0,
         due: 0,
         outcome: 0,
+        mask: 0,
+        test: 0,
+        consume: 0,
     }
 }
 

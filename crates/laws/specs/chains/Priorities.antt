@@ -10,7 +10,7 @@ use lib.ListN.{length, List·getD-eq-default}
 use Rattle.rules.specs.Sizes.{taskCount, mutexCount, delayed, waitsMutex}
 use Rattle.rules.specs.Chain.{after, Leads, Fresh, fresh}
 use Rattle.rules.specs.Afresh.{lt-or-le, here, split, fresh-is, fresh-one}
-use Rattle.rules.specs.Table.{Table, taskOf, mutexOf, isAble, written, noMutex, withBase, withState, withMark, holderOf}
+use Rattle.rules.specs.Table.{Table, Asked, taskOf, mutexOf, isAble, written, noMutex, withBase, withState, withMark, holderOf, withAsked}
 use Rattle.rules.specs.Move.{put, next, baseOf, freshIn, putWork, walk, away, ended}
 use Rattle.rules.specs.Task.{created, changePriority}
 use Rattle.rules.specs.Object.{limited}
@@ -94,13 +94,14 @@ module _ {t : Table} (h : SoundWithin t) {i : ℕ} (l : i < taskCount) where
     delay-worked mark = alike-worked (stored-alike (put-stored i _ t l) (waits-none (holderOf t) _ (λ e. omega arith) ∙ sym (able-next t i a)) refl refl) (h .worked)
 
     -- A wait of it begins: where it is for a mutex, the walk from its holder.
-    pub blocked-worked : (state object limit w : ℕ) → (state ≡ waitsMutex → w ≡ holderOf t object) → WorkedOut (walk w (put i (withState state object (limited limit t (taskOf t i))) t))
-    blocked-worked state object limit w from =
+    pub blocked-worked : (state object limit : ℕ) (asked : Asked) (w : ℕ) → (state ≡ waitsMutex → w ≡ holderOf t object)
+        → WorkedOut (walk w (put i (withAsked asked (withState state object (limited limit t (taskOf t i)))) t))
+    blocked-worked state object limit asked w from =
         let (base, work) = limited-keeps limit t (taskOf t i) in
         stored-worked k w work (inl base) (inr (inr (omega (arith, able-next t i a)), waits (ℕ-discrete state waitsMutex)))
       where
         k : Task
-        k = withState state object (limited limit t (taskOf t i))
+        k = withAsked asked (withState state object (limited limit t (taskOf t i)))
 
         waits : Dec (state ≡ waitsMutex) → Toward taskCount w (waitsFor (holderOf t) k)
         waits (yes e) = inl (waits-one (holderOf t) k e ∙ sym (from e))

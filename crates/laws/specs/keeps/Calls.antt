@@ -4,7 +4,7 @@ use mathlib.Core.Logic.{inl}
 use Prim.Native.Nat.{_+_, _-_}
 use native.Mathlib.Omega.{arith}
 use Rattle.rules.specs.Sizes.{delayed, given}
-use Rattle.rules.specs.Table.{Table, noTask, heldBy}
+use Rattle.rules.specs.Table.{Table, nothingAsked, noTask, heldBy}
 use Rattle.rules.specs.Sound.{Sound}
 use Rattle.rules.specs.Time.{markIn, yield, delay, delayResume}
 use Rattle.rules.specs.Lock.{lock, unlock}
@@ -15,23 +15,24 @@ use Rattle.rules.specs.Mutex as mutex
 use Rattle.rules.specs.Kinds.{spelled}
 use Rattle.rules.specs.Step.{changeBy, Bounded}
 use Rattle.rules.specs.declared.Call.{Call}
-use Rattle.rules.specs.declared.Call.the-variants.{TaskCreate, TaskDelete, ChangePriority, Suspend, Resume, Yield, Delay, DelayResume, Lock, Unlock, Tick, SemaphoreCreate, SemaphoreDelete, SemaphoreWait, SemaphorePost, SemaphoreAbort, MutexCreate, MutexDelete, MutexWait, MutexPost, MutexAbort}
+use Rattle.rules.specs.declared.Call.the-variants.{TaskCreate, TaskDelete, ChangePriority, Suspend, Resume, Yield, Delay, DelayResume, Lock, Unlock, Tick, SemaphoreCreate, SemaphoreDelete, SemaphoreWait, SemaphorePost, SemaphoreAbort, MutexCreate, MutexDelete, MutexWait, MutexPost, MutexAbort, GroupCreate, GroupDelete, GroupWait, GroupPost, GroupAbort}
 use Rattle.laws.specs.keeps.Becomes.{caller-used}
 use Rattle.laws.specs.keeps.Running.{depth-runs}
 use Rattle.laws.specs.keeps.Ending.{ticked-keeps}
-use Rattle.laws.specs.keeps.Records.{created-right, free-right, base-right, suspend-right, marked-right, mark-later}
+use Rattle.laws.specs.keeps.Records.{created-right, free-right, base-right, suspend-right, marked-right, mark-later, asks-nothing}
 use Rattle.laws.specs.chains.Priorities.{created-worked, renewed-worked, changePriority-worked, delay-worked}
 use Rattle.rules.specs.Move.{next}
 use Rattle.rules.specs.Task.{create, delete, changePriority, suspend, resume}
 use Rattle.laws.specs.keeps.Moves.{BeforeChoice, framed-settled, no-wait, may-go-on, goes-on-keeps, put-keeps, put-walk-keeps, rotate-keeps, ended-keeps, stored-keeps}
 use Rattle.laws.specs.numbers.Presumes.{Presumes}
-use Rattle.laws.specs.queues.Rows.{among-semaphores, among-mutexes}
+use Rattle.laws.specs.queues.Rows.{among-semaphores, among-mutexes, among-groups}
 use Rattle.laws.specs.queues.Stands.{no-queue}
 use Rattle.laws.specs.keeps.Objects.{unheld-right}
-use Rattle.laws.specs.keeps.Families.{mutex-unwaited, semaphores-lawful, mutexes-lawful, abort-keeps, delete-keeps}
+use Rattle.laws.specs.keeps.Families.{mutex-unwaited, semaphores-lawful, mutexes-lawful, groups-lawful, abort-keeps, delete-keeps}
 use Rattle.laws.specs.keeps.Caller.{midway, caller-task, runs-able}
 use Rattle.laws.specs.keeps.Semaphore as semaphore-call
 use Rattle.laws.specs.keeps.Mutex as mutex-call
+use Rattle.laws.specs.keeps.Group as group-call
 
 module _ {t : Table} (s : Sound t) where
   pub change-keeps : (c : Call) → Bounded c → Presumes c t → BeforeChoice (changeBy c t)
@@ -74,7 +75,7 @@ module _ {t : Table} (s : Sound t) where
       put-keeps (midway s)
       (record {
         task = (caller-task s);
-        right = marked-right (s .settled .tasks _ (caller-task s)) u delayed 0 n t (omega arith) (omega arith) (omega arith);
+        right = marked-right (s .settled .tasks _ (caller-task s)) u delayed 0 nothingAsked (omega arith) (omega arith) (asks-nothing (omega arith)) n t (omega arith);
         notDue = λ l e. mark-later n t (s .settled .tick) (omega arith) (b 0);
         waits = no-wait t _ 1 0 (omega arith);
         holds = λ m l e. u;
@@ -108,3 +109,10 @@ module _ {t : Table} (s : Sound t) where
   change-keeps (MutexWait m block limit) b (c, l, u, room, free) = mutex-call.wait-keeps s m c l u limit (b 2) room free
   change-keeps (MutexPost m) b (c, l, u, own) = mutex-call.post-keeps s m c l u own
   change-keeps (MutexAbort m) b (l, some) = abort-keeps mutexes-lawful (midway s) m l some
+  change-keeps (GroupCreate g flags) b (l, u) =
+      group-call.create-keeps s g flags l (b 1) (no-queue among-groups (s .settled .queued) g l (s .settled .tasks) (s .settled .objects) (inl u))
+  change-keeps (GroupDelete g force) b l = delete-keeps groups-lawful (midway s) g l
+  change-keeps (GroupWait g block limit mask test consume) b (c, l, u, some, kind, eats, free) =
+      group-call.wait-keeps s g l u limit mask test consume (b 2) (b 3) some kind eats c free
+  change-keeps (GroupPost g mask on) b (l, u) = group-call.post-keeps s g l u mask on (b 1)
+  change-keeps (GroupAbort g) b (l, some) = abort-keeps groups-lawful (midway s) g l some

@@ -10,7 +10,7 @@ use native.Mathlib.Omega.{arith}
 use lib.Dec.{eqb}
 use borrow.Author.Tests.{eq-eqb, ne-eqb}
 use Rattle.rules.specs.Sizes.{taskCount, ticksRound, delayed, given, timedOut, objectDeleted}
-use Rattle.rules.specs.Table.{Table, taskOf, queueCount, ableQueue, firstIn, isAble, withTick, withLeft}
+use Rattle.rules.specs.Table.{Table, taskOf, queueCount, ableQueue, slotIn, firstIn, isAble, withTick, withLeft}
 use Rattle.rules.specs.Family.{placeOf}
 use Rattle.rules.specs.Move.{ready, ended, endedAll, hasPeer}
 use Rattle.rules.specs.Decides.{Decides, equals, either, both}
@@ -22,21 +22,24 @@ use Rattle.rules.specs.declared.Task.{Task}
 use Rattle.laws.specs.queues.Put.{sized, pick, whichever, task-put-same, able-left}
 use Rattle.laws.specs.keeps.Tally.{tally, tally-most, tally-some, tally-less}
 use Rattle.laws.specs.queues.Fields.{bare-place}
-use Rattle.laws.specs.queues.Stands.{placed-used, waits-there, first-range, first-there, none-empty}
+use Rattle.laws.specs.queues.Stands.{placed-used, waits-there, slot-range, slot-there, first-there, none-empty}
 use Rattle.laws.specs.keeps.Becomes.{Becomes, ended-becomes, caller, shorter}
 use Rattle.laws.specs.keeps.Records.{NotYet, left-right}
 use Rattle.laws.specs.keeps.Running.{may-run-on, caller-able}
 use Rattle.laws.specs.keeps.Moves.{Midway, BeforeChoice, framed-settled, goes-on-keeps, rotate-keeps, Waiter, ended-keeps}
 
--- ---- the first waiter
+-- ---- a waiter, and the first
 
--- The first of an object's queue waits.
-pub first-waiter : {t : Table} → SoundWithin t → (q : ℕ) → q < queueCount → q ≢ ableQueue → firstIn q t ≢ 0 → Waiter t (firstIn q t - 1)
-first-waiter {t} s q l d some =
-    let i = firstIn q t - 1 in
-    let n : i < taskCount = omega (arith, first-range (s .queued) q l) in
-    let there : placeOf (taskOf t i) ≡ q = first-there (s .queued) q l some in
+-- Who stands in an object's queue waits.
+pub slot-waiter : {t : Table} → SoundWithin t → (q : ℕ) → q < queueCount → q ≢ ableQueue → (k : ℕ) → slotIn q k t ≢ 0 → Waiter t (slotIn q k t - 1)
+slot-waiter {t} s q l d k some =
+    let i = slotIn q k t - 1 in
+    let n : i < taskCount = omega (arith, slot-range (s .queued) q l k) in
+    let there : placeOf (taskOf t i) ≡ q = slot-there (s .queued) q l k some in
     record { task = n; used = placed-used (s .tasks i n) (omega arith); state = waits-there (taskOf t i) (omega arith) (λ e. d (sym there ∙ e)) }
+
+pub first-waiter : {t : Table} → SoundWithin t → (q : ℕ) → q < queueCount → q ≢ ableQueue → firstIn q t ≢ 0 → Waiter t (firstIn q t - 1)
+first-waiter s q l d = slot-waiter s q l d 0
 
 -- ---- each waiter of a queue, from the first
 

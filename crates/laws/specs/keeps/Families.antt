@@ -5,27 +5,28 @@ use mathlib.Core.Bool.{true}
 use Prim.Native.Nat.{ℕ, _-_, _≤_, _<_}
 use native.Mathlib.Omega.{arith}
 use lib.ListN.{length-set}
-use Rattle.rules.specs.Sizes.{taskCount, semaphoreCount, mutexCount, ticksRound, delayed, waitsMutex, aborted}
-use Rattle.rules.specs.Table.{Table, taskOf, semaphoreQueue, mutexQueue, firstIn, isAble, withSemaphore, withMutex, holderOf}
+use Rattle.rules.specs.Sizes.{taskCount, semaphoreCount, mutexCount, groupCount, ticksRound, delayed, waitsMutex, waitsFlags, aborted}
+use Rattle.rules.specs.Table.{Table, Asked, taskOf, semaphoreQueue, mutexQueue, groupQueue, firstIn, isAble, withSemaphore, withMutex, withGroup, holderOf}
 use Rattle.rules.specs.Move.{next}
-use Rattle.rules.specs.Sound.{Empty, SoundSemaphore, SoundMutex, MayWait, SoundWithin}
+use Rattle.rules.specs.Sound.{Empty, SoundSemaphore, SoundMutex, SoundGroup, MayWait, SoundWithin}
 use Rattle.rules.specs.Time.{callerOf}
-use Rattle.rules.specs.Family.{Family, waitersOf, semaphores, mutexes, families, Among}
+use Rattle.rules.specs.Family.{Family, waitersOf, semaphores, mutexes, groups, families, Among}
 use Rattle.rules.specs.Object.{blocked, waits, abort, objectAbort, objectDelete}
 use Rattle.rules.specs.declared.Semaphore.{Semaphore}
 use Rattle.rules.specs.declared.Mutex.{Mutex}
+use Rattle.rules.specs.declared.Group.{Group}
 use Rattle.laws.specs.queues.Put.{sized}
 use Rattle.laws.specs.chains.Graph.{Alike, waits-task, unwaited-alike}
 use Rattle.laws.specs.chains.Priorities.{blocked-worked}
 use Rattle.laws.specs.keeps.Becomes.{caller, caller-used}
-use Rattle.laws.specs.keeps.Records.{limited-right, limited-used, limited-later}
-use Rattle.laws.specs.queues.Rows.{among-semaphores, among-mutexes, waiting, known, numbers, first-queue, last-queue}
+use Rattle.laws.specs.keeps.Records.{MayAsk, limited-right, limited-used, limited-later}
+use Rattle.laws.specs.queues.Rows.{among-semaphores, among-mutexes, among-groups, waiting, known, numbers, first-queue, last-queue}
 use Rattle.laws.specs.queues.Stands.{unwaited}
-use Rattle.laws.specs.keeps.Objects.{one-wait, HeldApart, semaphore-objects, mutex-objects}
+use Rattle.laws.specs.keeps.Objects.{one-wait, HeldApart, semaphore-objects, mutex-objects, group-objects}
 use Rattle.laws.specs.keeps.Ending.{first-waiter, emptied-all}
 use Rattle.laws.specs.keeps.Moves.{BeforeChoice, put-walk-keeps, Waiter, ended-keeps, Stores, stores-keeps}
 
--- ---- semaphores and mutexes stored
+-- ---- objects stored
 
 module _ {t : Table} (s : SoundWithin t) where
   -- A mutex: whoever waits for it may go on waiting, and its holder is in use.
@@ -34,7 +35,7 @@ module _ {t : Table} (s : SoundWithin t) where
       → (x .holder ≢ 0 → taskOf t (x .holder - 1) .used ≡ 1)
       → Stores t (withMutex m x t)
   mutex-stores m x right waited uses =
-      record { tasks = refl; queues = refl; semaphores = refl; mutexes = length-set (t .mutexes) m x; frames = refl; objects = mutex-objects m x (s .objects) right waited uses }
+      record { tasks = refl; queues = refl; semaphores = refl; mutexes = length-set (t .mutexes) m x; groups = refl; frames = refl; objects = mutex-objects m x (s .objects) right waited uses }
 
   -- One for which nobody waits.
   pub mutex-unwaited : (m : ℕ) (x : Mutex) → m < mutexCount → SoundMutex x → (x .holder ≢ 0 → taskOf t (x .holder - 1) .used ≡ 1) → Empty (mutexQueue m) t
@@ -52,11 +53,32 @@ module _ {t : Table} (s : SoundWithin t) where
       queues = refl;
       semaphores = length-set (t .semaphores) o x;
       mutexes = refl;
+      groups = refl;
       frames = refl;
       objects = semaphore-objects o x (s .objects) right (λ j k e y. absurd (unwaited among-semaphores (s .queued) o l z j k e y));
     },
     record { nexts = λ j. refl; bases = λ j. refl; works = λ j. refl },
   )
+
+  -- A group: whoever waits for it finds it in use. It makes no task wait for another either.
+  pub group-stores : (g : ℕ) (x : Group) → SoundGroup x → ((j : ℕ) → j < taskCount → taskOf t j .state ≡ waitsFlags → taskOf t j .object ≡ g → x .used ≡ 1)
+      → Stores t (withGroup g x t) × Alike t (withGroup g x t)
+  unfolding next holderOf
+  group-stores g x right waited = (
+    record {
+      tasks = refl;
+      queues = refl;
+      semaphores = refl;
+      mutexes = refl;
+      groups = length-set (t .groups) g x;
+      frames = refl;
+      objects = group-objects g x (s .objects) right waited;
+    },
+    record { nexts = λ j. refl; bases = λ j. refl; works = λ j. refl },
+  )
+
+  pub group-unwaited : (g : ℕ) (x : Group) → g < groupCount → SoundGroup x → Empty (groupQueue g) t → Stores t (withGroup g x t) × Alike t (withGroup g x t)
+  group-unwaited g x l right z = group-stores g x right (λ j k e o. absurd (unwaited among-groups (s .queued) g l z j k e o))
 
 -- ---- families
 
@@ -85,6 +107,14 @@ mutexes-lawful =
           mutex-unwaited s m _ l (record { used = omega arith; holder = omega arith; nesting = omega arith; free = λ e. refl; unheld = λ e. refl; held = λ d. absurd (d refl) }) (λ d. absurd (d refl));
     }
 
+pub groups-lawful : Lawful groups
+groups-lawful =
+    record {
+      among = among-groups;
+      chain = λ e. absurd (omega arith);
+      goes = λ s g l. group-unwaited s g _ l (record { used = omega arith; flags = omega arith; free = λ e. refl });
+    }
+
 -- ---- the calls that every family has
 
 -- The first in the queue of an object waits.
@@ -105,19 +135,19 @@ module _ {f : Family} (k : Lawful f) {t : Table} (h : BeforeChoice t) (o : ℕ) 
       stores-keeps (e .midway) (k .goes (e .midway .settled) o l (e .empty)) (f .holder t o)
 
   -- "Otherwise the caller leaves the able queue, goes behind its equals in the object's queue, and .. the chain from the holder moves."
-  pub waits-keeps : (limit : ℕ) → limit < ticksRound → callerOf t < taskCount → isAble (caller t) ≡ true → t .depth ≡ 0 → MayWait f t (callerOf t) o
-      → BeforeChoice (waits f o limit t)
+  pub waits-keeps : (limit : ℕ) (a : Asked) → limit < ticksRound → MayAsk (f .state) a → callerOf t < taskCount → isAble (caller t) ≡ true → t .depth ≡ 0 → MayWait f t (callerOf t) o
+      → BeforeChoice (waits f o limit a t)
   unfolding waits blocked
-  waits-keeps limit most c a z may =
+  waits-keeps limit asked most asks c a z may =
       let s = h .settled in
       put-walk-keeps h
       (record {
         task = c;
-        right = limited-right (s .tasks _ c) (caller-used t a) (f .state) o limit t (known (k .among)) (waiting (k .among)) (omega (arith, numbers (k .among)));
-        notDue = λ n. limited-later t (caller t) (f .state) o limit (s .tick) most;
+        right = limited-right (s .tasks _ c) (caller-used t a) (f .state) o asked (known (k .among)) (omega (arith, numbers (k .among))) asks limit t (waiting (k .among));
+        notDue = λ n. limited-later t (caller t) (f .state) o limit asked (s .tick) most;
         waits = one-wait (k .among) may;
         holds = λ m n e. limited-used (s .tasks _ c) (caller-used t a) limit t;
         runs = λ d. absurd (d z);
       })
       (f .holder t o)
-      (blocked-worked s c a (f .state) o limit (f .holder t o) (λ e. k .chain e t o))
+      (blocked-worked s c a (f .state) o limit asked (f .holder t o) (λ e. k .chain e t o))

@@ -46,11 +46,17 @@ framed-settled {t} s tick depth running l m =
     let u = framed tick depth running t in
     let o = s .objects in
     record {
-      queued = same-queued (s .queued) refl refl refl refl;
+      queued = same-queued (s .queued) refl refl refl refl refl;
       worked = s .worked;
       tasks = s .tasks;
       objects =
-          record { semaphores = o .semaphores; mutexes = o .mutexes; waits = λ i l. waits-like {u = u} i (taskOf t i .state) (taskOf t i .object) refl refl (o .waits i l); holders = o .holders };
+          record {
+            semaphores = o .semaphores;
+            mutexes = o .mutexes;
+            groups = o .groups;
+            waits = λ i l. waits-like {u = u} i (taskOf t i .state) (taskOf t i .object) refl refl refl (o .waits i l);
+            holders = o .holders;
+          };
       tick = l;
       depth = m;
     }
@@ -175,6 +181,7 @@ pub record Stores (t u : Table) : Type 0 where
   pub queues : u .queues ≡ t .queues
   pub semaphores : length (u .semaphores) ≡ length (t .semaphores)
   pub mutexes : length (u .mutexes) ≡ length (t .mutexes)
+  pub groups : length (u .groups) ≡ length (t .groups)
   pub frames : frame u ≡ frame t
   pub objects : SoundObjects u
 
@@ -184,7 +191,7 @@ module _ {n : ℕ} {t u : Table} (h : Midway n t) (x : Stores t u) where
   stores-walk-keeps w worked =
       let s = h .settled in
       becomes-keeps h (may-go-on h {i = 0} (omega arith) (taskOf t 0) (s .tasks 0 (omega arith)) refl (λ d e a. a)) (then-walk (as-is 0 t u (x .tasks) (x .frames)) w)
-      (walk-queued w (same-queued (s .queued) (x .tasks) (x .queues) (x .semaphores) (x .mutexes)))
+      (walk-queued w (same-queued (s .queued) (x .tasks) (x .queues) (x .semaphores) (x .mutexes) (x .groups)))
       worked
       (become-objects (then-walk (as-is 0 u u refl refl) w) (walk-rest w u) (x .objects) (x .objects .waits 0 (omega arith)) (holder-used (x .objects) 0))
 

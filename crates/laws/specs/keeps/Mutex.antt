@@ -5,7 +5,7 @@ use Prim.Native.Nat.{ℕ, _+_, _-_, _≤_, _<_}
 use native.Mathlib.Omega.{arith}
 use borrow.Author.Tests.{eq-eqb}
 use Rattle.rules.specs.Sizes.{taskCount, mutexCount, mostNested, ticksRound}
-use Rattle.rules.specs.Table.{Table, taskOf, mutexOf, written, withHold}
+use Rattle.rules.specs.Table.{Table, nothingAsked, taskOf, mutexOf, written, withHold}
 use Rattle.rules.specs.Decides.{equals, at-most}
 use Rattle.rules.specs.Sound.{SoundMutex, Sound}
 use Rattle.rules.specs.Time.{callerOf}
@@ -15,6 +15,7 @@ use Rattle.rules.specs.declared.Mutex.{Mutex}
 use Rattle.laws.specs.queues.Put.{pick}
 use Rattle.laws.specs.chains.Graph.{Alike, held-alike}
 use Rattle.laws.specs.keeps.Becomes.{caller-used}
+use Rattle.laws.specs.keeps.Records.{asks-nothing}
 use Rattle.laws.specs.keeps.Moves.{BeforeChoice, Stores, stored-keeps}
 use Rattle.laws.specs.keeps.Release.{released-keeps}
 use Rattle.laws.specs.numbers.Presumes.{not-not}
@@ -68,7 +69,7 @@ module _ {t : Table} (s : Sound t) where
         (held-keeps m _ _ l u held (s .settled .objects .mutexes m l .holder) (omega arith) (omega (arith, room own)) (s .settled .objects .holders m l held) (inr refl))
         (caller-task s) (runs-able s c))
         (λ other.
-        waits-keeps mutexes-lawful (midway s) m l limit most (caller-task s) (runs-able s c) (free held other)
+        waits-keeps mutexes-lawful (midway s) m l limit nothingAsked most (asks-nothing (omega arith)) (caller-task s) (runs-able s c) (free held other)
         (apart-may t _ m (record { used = u; held = held; apart = other }))))
 
     pub post-keeps : mutexOf t m .holder ≡ written (callerOf t) → BeforeChoice (mutex.post m t)

@@ -1,18 +1,20 @@
 -- What the standing rules say of objects and of who waits for them (`SoundObjects`), after one task or one object changes.
 use mathlib.Core.Path.{_≡_, refl, sym, ap, subst}
 use mathlib.Core.Logic.{_≢_}
+use mathlib.Core.Bool.{true≢false}
 use Prim.Native.Nat.{ℕ, _-_, _≤_, _<_}
 use native.Mathlib.Nat.{pos-of-ne-zero}
 use borrow.Author.Tests.{eqb-true, eq-eqb, ne-eqb, ltb-true, lt-ltb}
 use native.Mathlib.Omega.{arith}
-use Rattle.rules.specs.Sizes.{taskCount, mutexCount, mostNested, waitsSemaphore, waitsMutex}
-use Rattle.rules.specs.Table.{Table, taskOf, semaphoreOf, mutexOf, written, noSemaphore, noMutex, withHold, withSemaphore, withMutex, holderOf}
+use Rattle.rules.specs.Sizes.{taskCount, mutexCount, mostNested, waitsSemaphore, waitsMutex, waitsFlags}
+use Rattle.rules.specs.Table.{Table, taskOf, semaphoreOf, mutexOf, groupOf, written, noSemaphore, noMutex, noGroup, withHold, withSemaphore, withMutex, withGroup, holderOf}
 use Rattle.rules.specs.declared.Task.{Task}
 use Rattle.rules.specs.declared.Semaphore.{Semaphore}
 use Rattle.rules.specs.declared.Mutex.{Mutex}
-use Rattle.rules.specs.Sound.{SoundSemaphore, SoundMutex, MayWait, SoundWait, SoundObjects}
-use Rattle.rules.specs.Family.{Family, semaphores, mutexes, families, Among}
-use Rattle.laws.specs.queues.Rows.{among-semaphores, among-mutexes, of-families, one-family}
+use Rattle.rules.specs.declared.Group.{Group}
+use Rattle.rules.specs.Sound.{SoundSemaphore, SoundMutex, SoundGroup, MayWait, SoundWait, SoundObjects}
+use Rattle.rules.specs.Family.{Family, semaphores, mutexes, groups, families, Among}
+use Rattle.laws.specs.queues.Rows.{among-semaphores, among-mutexes, among-groups, of-families, one-family}
 use Rattle.laws.specs.chains.Graph.{written-holder}
 use Rattle.laws.specs.queues.Fields.{rest}
 use Rattle.laws.specs.queues.Put.{set-each}
@@ -50,17 +52,23 @@ module _ (t : Table) (i o : ℕ) where
       own : mutexOf t o .holder - 1 ≡ i → mutexOf t o .holder ≡ written i
       own e = omega (arith, pos-of-ne-zero (a .held))
 
+  -- A group that is waited for is in use, whatever its flags are.
+  pub used-may : i < taskCount → groupOf t o .used ≡ 1 → MayWait groups t i o
+  used-may l u = record { used = u; nothing = λ e. true≢false (sym e); apart = λ e. omega arith }
+
 -- A task may be in the state of a family for which it may wait.
 pub one-wait : {f : Family} → Among f families → {t : Table} {i o : ℕ} → MayWait f t i o → SoundWait t i (f .state) o
 one-wait a {t} {i} {o} w g b e = subst (λ (h : Family). MayWait h t i o) (one-family a b e) w
 
 -- Where the objects are the same, so is who may wait.
-pub waits-like : {t u : Table} (i state object : ℕ) → u .semaphores ≡ t .semaphores → u .mutexes ≡ t .mutexes → SoundWait t i state object → SoundWait u i state object
+pub waits-like : {t u : Table} (i state object : ℕ) → u .semaphores ≡ t .semaphores → u .mutexes ≡ t .mutexes → u .groups ≡ t .groups → SoundWait t i state object
+    → SoundWait u i state object
 unfolding holderOf
-waits-like i state object a b r =
+waits-like i state object a b c r =
     of-families _
     (λ e. let w = r semaphores among-semaphores e in record { used = rw a (w .used); nothing = rw a (w .nothing); apart = w .apart })
     (λ e. let w = r mutexes among-mutexes e in record { used = rw b (w .used); nothing = rw b (w .nothing); apart = rw b (w .apart) })
+    (λ e. let w = r groups among-groups e in record { used = rw c (w .used); nothing = w .nothing; apart = w .apart })
 
 -- ---- one task changes
 
@@ -72,8 +80,9 @@ become-objects {i} {k} {t} {u} b rests old may uses =
     record {
       semaphores = λ s l. subst (λ (x : Table). SoundSemaphore (semaphoreOf x s)) same (old .semaphores s l);
       mutexes = λ m l. subst (λ (x : Table). SoundMutex (mutexOf x m)) same (old .mutexes m l);
+      groups = λ g l. subst (λ (x : Table). SoundGroup (groupOf x g)) same (old .groups g l);
       waits = λ j l.
-          waits-like j (taskOf u j .state) (taskOf u j .object) (ap (λ (x : Table). x .semaphores) rests) (ap (λ (x : Table). x .mutexes) rests)
+          waits-like j (taskOf u j .state) (taskOf u j .object) (ap (λ (x : Table). x .semaphores) rests) (ap (λ (x : Table). x .mutexes) rests) (ap (λ (x : Table). x .groups) rests)
           (becomes-each (λ n x. SoundWait t n (x .state) (x .object)) b j may (old .waits j l));
       holders = λ m l.
           let h = mutexOf t m .holder in
@@ -99,13 +108,15 @@ semaphore-objects {t} s x old right waited =
     record {
       semaphores = λ n l. set-each (λ n. SoundSemaphore) (t .semaphores) s n x noSemaphore right (old .semaphores n l);
       mutexes = old .mutexes;
+      groups = old .groups;
       waits = λ j l.
           let o = taskOf t j .object in
           of-families _
           (λ e.
           awaited-may (withSemaphore s x t) j o l
           (set-each (λ n y. n ≡ o → Awaited y) (t .semaphores) s o x noSemaphore (λ q. waited j l e (sym q)) (λ q. may-awaited t j o (old .waits j l semaphores among-semaphores e)) refl))
-          (λ e. apart-may (withSemaphore s x t) j o (may-apart t j o l (old .waits j l mutexes among-mutexes e)));
+          (λ e. apart-may (withSemaphore s x t) j o (may-apart t j o l (old .waits j l mutexes among-mutexes e)))
+          (λ e. used-may (withSemaphore s x t) j o l (old .waits j l groups among-groups e .used));
       holders = old .holders;
     }
 
@@ -117,14 +128,35 @@ mutex-objects {t} m x old right waited uses =
     record {
       semaphores = old .semaphores;
       mutexes = λ n l. set-each (λ n. SoundMutex) (t .mutexes) m n x noMutex right (old .mutexes n l);
+      groups = old .groups;
       waits = λ j l.
           let o = taskOf t j .object in
           of-families _
           (λ e. awaited-may (withMutex m x t) j o l (may-awaited t j o (old .waits j l semaphores among-semaphores e)))
           (λ e.
           apart-may (withMutex m x t) j o
-          (set-each (λ n y. n ≡ o → HeldApart j y) (t .mutexes) m o x noMutex (λ q. waited j l e (sym q)) (λ q. may-apart t j o l (old .waits j l mutexes among-mutexes e)) refl));
+          (set-each (λ n y. n ≡ o → HeldApart j y) (t .mutexes) m o x noMutex (λ q. waited j l e (sym q)) (λ q. may-apart t j o l (old .waits j l mutexes among-mutexes e)) refl))
+          (λ e. used-may (withMutex m x t) j o l (old .waits j l groups among-groups e .used));
       holders = λ n l. set-each (λ n y. y .holder ≢ 0 → taskOf t (y .holder - 1) .used ≡ 1) (t .mutexes) m n x noMutex uses (old .holders n l);
+    }
+
+pub group-objects : {t : Table} (g : ℕ) (x : Group) → SoundObjects t → SoundGroup x
+    → ((j : ℕ) → j < taskCount → taskOf t j .state ≡ waitsFlags → taskOf t j .object ≡ g → x .used ≡ 1)
+    → SoundObjects (withGroup g x t)
+group-objects {t} g x old right waited =
+    record {
+      semaphores = old .semaphores;
+      mutexes = old .mutexes;
+      groups = λ n l. set-each (λ n. SoundGroup) (t .groups) g n x noGroup right (old .groups n l);
+      waits = λ j l.
+          let o = taskOf t j .object in
+          of-families _
+          (λ e. awaited-may (withGroup g x t) j o l (may-awaited t j o (old .waits j l semaphores among-semaphores e)))
+          (λ e. apart-may (withGroup g x t) j o (may-apart t j o l (old .waits j l mutexes among-mutexes e)))
+          (λ e.
+          used-may (withGroup g x t) j o l
+          (set-each (λ n (y : Group). n ≡ o → y .used ≡ 1) (t .groups) g o x noGroup (λ q. waited j l e (sym q)) (λ q. old .waits j l groups among-groups e .used) refl));
+      holders = old .holders;
     }
 
 -- A mutex in use without a holder, and one with.

@@ -4,11 +4,12 @@ use mathlib.Core.Logic.{_≢_}
 use Prim.Native.Nat.{ℕ, _≤_, _<_}
 use native.Mathlib.Omega.{arith}
 use lib.Dec.{eqb}
-use Rattle.rules.specs.Sizes.{lastPriority, mostNested, mostQuantum, ticksRound, plain, delayed, objectDeleted}
-use Rattle.rules.specs.Table.{Table, noTask, withBase, withWork, withSuspend, withLeft, withState, withMark, withOutcome}
+use borrow.Author.Tests.{ne-eqb}
+use Rattle.rules.specs.Sizes.{lastPriority, mostNested, mostQuantum, ticksRound, flagSets, testCount, plain, delayed, waitsFlags, objectDeleted}
+use Rattle.rules.specs.Table.{Table, Asked, nothingAsked, noTask, withBase, withWork, withSuspend, withLeft, withState, withMark, withOutcome, withAsked}
 use Rattle.rules.specs.Decides.{equals}
 use Rattle.rules.specs.Move.{ready}
-use Rattle.rules.specs.Sound.{marksIn, TaskInRange, SoundTask}
+use Rattle.rules.specs.Sound.{marksIn, asksIn, TaskInRange, SoundTask}
 use Rattle.rules.specs.Family.{lastState, ofState, objectsIn}
 use Rattle.rules.specs.Task.{created}
 use Rattle.rules.specs.Time.{markIn}
@@ -18,17 +19,31 @@ use Rattle.laws.specs.queues.Put.{whichever, pick}
 
 -- ---- fields in range
 
+-- What a task in this state may ask of flags: nothing but in a wait for them.
+pub record MayAsk (state : ℕ) (a : Asked) : Type 0 where
+  pub mask : a .mask < asksIn state flagSets
+  pub test : a .test < asksIn state testCount
+  pub consume : a .consume < asksIn state 2
+  pub some : state ≡ waitsFlags → 1 ≤ a .mask
+
+pub asks-nothing : {state : ℕ} → state ≢ waitsFlags → MayAsk state nothingAsked
+unfolding asksIn
+asks-nothing {state} d =
+    let e = ne-eqb state waitsFlags d in
+    record { mask = rw e (omega arith); test = rw e (omega arith); consume = rw e (omega arith); some = λ e. absurd (d e) }
+
 -- A task in use has no fields that must be zero.
-in-use : {k : Task} → k .used ≡ 1 → TaskInRange k → (k .state ≡ plain → k .marked ≡ 0) → (k .state ≡ delayed → k .marked ≡ 1) → k .left ≤ k .quantum → SoundTask k
-in-use {k} u r p d l = record { inRange = r; freeZero = λ z. absurd (omega arith); plainMark = p; delayMark = d; left = l }
+in-use : {k : Task} → k .used ≡ 1 → TaskInRange k → (k .state ≡ plain → k .marked ≡ 0) → (k .state ≡ delayed → k .marked ≡ 1) → k .left ≤ k .quantum → (k .state ≡ waitsFlags → 1 ≤ k .mask)
+    → SoundTask k
+in-use {k} u r p d l m = record { inRange = r; freeZero = λ z. absurd (omega arith); plainMark = p; delayMark = d; left = l; asks = m }
 
 pub free-right : SoundTask noTask
-unfolding ofState marksIn
-free-right = record { inRange = omega arith; freeZero = λ z. refl; plainMark = λ e. refl; delayMark = λ e. absurd (omega arith); left = omega arith }
+unfolding ofState marksIn asksIn
+free-right = record { inRange = omega arith; freeZero = λ z. refl; plainMark = λ e. refl; delayMark = λ e. absurd (omega arith); left = omega arith; asks = λ e. absurd (omega arith) }
 
 pub created-right : {base quantum : ℕ} → base ≤ lastPriority → quantum ≤ mostQuantum → SoundTask (created base quantum)
-unfolding ofState marksIn
-created-right b q = in-use refl (omega arith) (λ e. refl) (λ e. absurd (omega arith)) (omega arith)
+unfolding ofState marksIn asksIn
+created-right b q = in-use refl (omega arith) (λ e. refl) (λ e. absurd (omega arith)) (omega arith) (λ e. absurd (omega arith))
 
 module _ {k : Task} (r : SoundTask k) where
   -- A working priority no greater than the base.
@@ -40,6 +55,7 @@ module _ {k : Task} (r : SoundTask k) where
         plainMark = r .plainMark;
         delayMark = r .delayMark;
         left = r .left;
+        asks = r .asks;
       }
 
   -- No more left than the quantum.
@@ -51,36 +67,35 @@ module _ {k : Task} (r : SoundTask k) where
         plainMark = r .plainMark;
         delayMark = r .delayMark;
         left = l;
+        asks = r .asks;
       }
 
   module _ (u : k .used ≡ 1) where
     pub base-right : (base : ℕ) → base ≤ lastPriority → SoundTask (withBase base k)
-    base-right base l = in-use u (omega arith) (r .plainMark) (r .delayMark) (r .left)
+    base-right base l = in-use u (omega arith) (r .plainMark) (r .delayMark) (r .left) (r .asks)
 
     pub suspend-right : (n : ℕ) → n ≤ mostNested → SoundTask (withSuspend n k)
-    suspend-right n l = in-use u (omega arith) (r .plainMark) (r .delayMark) (r .left)
+    suspend-right n l = in-use u (omega arith) (r .plainMark) (r .delayMark) (r .left) (r .asks)
 
     pub outcome-right : (outcome : ℕ) → outcome ≤ objectDeleted → SoundTask (withOutcome outcome k)
-    outcome-right outcome l = in-use u (omega arith) (r .plainMark) (r .delayMark) (r .left)
+    outcome-right outcome l = in-use u (omega arith) (r .plainMark) (r .delayMark) (r .left) (r .asks)
 
     pub ready-right : (outcome : ℕ) → outcome ≤ objectDeleted → SoundTask (ready outcome k)
-    unfolding ofState marksIn
-    ready-right outcome l = in-use u (omega arith) (λ e. refl) (λ e. absurd (omega arith)) (r .left)
+    unfolding ofState marksIn asksIn
+    ready-right outcome l = in-use u (omega arith) (λ e. refl) (λ e. absurd (omega arith)) (r .left) (λ e. absurd (omega arith))
 
-    -- A delay, or a wait with its limit.
-    pub marked-right : (state object n : ℕ) (t : Table) → state ≤ lastState → state ≢ plain → object < objectsIn state
-        → SoundTask (withState state object (withMark 1 (markIn n t) k))
-    unfolding marksIn
-    marked-right state object n t l d o = in-use u (omega arith) (λ e. absurd (d e)) (λ e. refl) (r .left)
+    module _ (state object : ℕ) (a : Asked) (l : state ≤ lastState) (o : object < objectsIn state) (m : MayAsk state a) where
+      -- A delay, or a wait with its limit.
+      pub marked-right : (n : ℕ) (t : Table) → state ≢ plain → SoundTask (withAsked a (withState state object (withMark 1 (markIn n t) k)))
+      unfolding marksIn
+      marked-right n t d = in-use u (omega (arith, m .mask, m .test, m .consume)) (λ e. absurd (d e)) (λ e. refl) (r .left) (m .some)
 
-    unmarked-right : (state object : ℕ) → state ≤ lastState → delayed < state → object < objectsIn state → SoundTask (withState state object (withMark 0 0 k))
-    unfolding marksIn
-    unmarked-right state object l d o = in-use u (omega arith) (λ e. refl) (λ e. absurd (omega arith)) (r .left)
+      unmarked-right : delayed < state → SoundTask (withAsked a (withState state object (withMark 0 0 k)))
+      unfolding marksIn
+      unmarked-right d = in-use u (omega (arith, m .mask, m .test, m .consume)) (λ e. refl) (λ e. absurd (omega arith)) (r .left) (m .some)
 
-    pub limited-right : (state object limit : ℕ) (t : Table) → state ≤ lastState → delayed < state → object < objectsIn state
-        → SoundTask (withState state object (limited limit t k))
-    limited-right state object limit t l d o =
-        whichever (λ x. SoundTask (withState state object x)) (eqb limit 0) (unmarked-right state object l d o) (marked-right state object limit t l (λ e. omega arith) o)
+      pub limited-right : (limit : ℕ) (t : Table) → delayed < state → SoundTask (withAsked a (withState state object (limited limit t k)))
+      limited-right limit t d = whichever (λ x. SoundTask (withAsked a (withState state object x))) (eqb limit 0) (unmarked-right d) (marked-right limit t (λ e. omega arith))
 
     pub limited-used : (limit : ℕ) (t : Table) → limited limit t k .used ≡ 1
     limited-used limit t = whichever (λ (x : Task). x .used ≡ 1) (eqb limit 0) u u
@@ -95,6 +110,6 @@ NotYet tick k = k .marked ≡ 1 → k .due ≡ tick → ⊥
 pub mark-later : (n : ℕ) (t : Table) → t .tick < ticksRound → 0 < n → n < ticksRound → markIn n t ≢ t .tick
 mark-later n t l z m e = omega arith
 
-pub limited-later : (t : Table) (k : Task) (state object limit : ℕ) → t .tick < ticksRound → limit < ticksRound → NotYet (t .tick) (withState state object (limited limit t k))
-limited-later t k state object limit l m =
-    pick (λ x. NotYet (t .tick) (withState state object x)) equals (λ e. omega arith) (λ (d : limit ≢ 0) q. mark-later limit t l (omega arith) m)
+pub limited-later : (t : Table) (k : Task) (state object limit : ℕ) (a : Asked) → t .tick < ticksRound → limit < ticksRound → NotYet (t .tick) (withAsked a (withState state object (limited limit t k)))
+limited-later t k state object limit a l m =
+    pick (λ x. NotYet (t .tick) (withAsked a (withState state object x))) equals (λ e. omega arith) (λ (d : limit ≢ 0) q. mark-later limit t l (omega arith) m)

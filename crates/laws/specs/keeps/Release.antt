@@ -8,7 +8,7 @@ use lib.ListN.{length}
 use lib.Seq.{getD-set-same, set-set}
 use Rattle.rules.specs.Sizes.{taskCount, mutexCount, given}
 use Rattle.rules.specs.Chain.{fresh}
-use Rattle.rules.specs.Table.{Table, taskOf, mutexOf, mutexQueue, firstIn, written, noMutex, withHold, holderOf}
+use Rattle.rules.specs.Table.{Table, taskOf, mutexOf, mutexQueue, firstIn, written, noMutex, withHold, holderOf, withMutexes}
 use Rattle.rules.specs.Family.{placeOf}
 use Rattle.rules.specs.Move.{next, baseOf, ready}
 use Rattle.rules.specs.Time.{callerOf}
@@ -169,7 +169,7 @@ module _ {n : ℕ} {t : Table} (h : Midway n t) (m : ℕ) (l : m < mutexCount) (
 
       -- But for the mutex, the table after: the waiter is plain, and the caller still holds it.
       with-mutexes : List Mutex → Table
-      with-mutexes x = record { tasks = u .tasks; semaphores = u .semaphores; mutexes = x; queues = u .queues; tick = u .tick; depth = u .depth; running = u .running }
+      with-mutexes x = withMutexes x u
 
       rests : rest u ≡ rest (withHoldOf m w 1 t)
       rests = put-rest i _ _ ∙ ap (λ (x : Table). rest (withHoldOf m w 1 x)) (walk-rest (callerOf t) free) ∙ rw (is-unheld, set-set (t .mutexes) m unheld (withHold w 1 (mutexOf t m)))
@@ -178,7 +178,7 @@ module _ {n : ℕ} {t : Table} (h : Midway n t) (m : ℕ) (l : m < mutexCount) (
       awake =
           become-objects
           (then-stored becomes (with-mutexes (t .mutexes)) refl refl)
-          (ap (λ (x : Table). rest (record { tasks = []; semaphores = x .semaphores; mutexes = t .mutexes; queues = []; tick = x .tick; depth = x .depth; running = x .running })) rests)
+          (ap (λ (x : Table). rest (withMutexes (t .mutexes) x)) rests)
           (s .objects)
           (no-wait t i 0 0 (omega arith))
           (holder-used (s .objects) i)

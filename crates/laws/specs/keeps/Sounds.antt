@@ -8,7 +8,7 @@ use Rattle.rules.specs.Chain.{leads, smallest, fresh}
 use Rattle.rules.specs.Table.{Table, freshTable, ableQueue, firstIn, isAble, works, holderOf}
 use Rattle.rules.specs.Decides.{itself}
 use Rattle.rules.specs.Move.{next, freshIn, chosen}
-use Rattle.rules.specs.Sound.{Sound, each, isShaped, marksIn, isTaskInRange, isNoTask, isNoSemaphore, isNoMutex, isSoundTask, isSoundSemaphore, isSoundMutex, mayWait, isSoundWait, eachOf, isSoundObjects, isSoundQueues, isWorkedOut, isSoundWithin, isSoundRuns, isSound, SoundWithin, NotDue}
+use Rattle.rules.specs.Sound.{Sound, each, isShaped, marksIn, isTaskInRange, isNoTask, isNoSemaphore, isNoMutex, isNoGroup, asksIn, isSoundTask, isSoundSemaphore, isSoundMutex, isSoundGroup, mayWait, isSoundWait, eachOf, isSoundObjects, isSoundQueues, isWorkedOut, isSoundWithin, isSoundRuns, isSound, SoundWithin, NotDue}
 use Rattle.rules.specs.Family.{ofState, placeOf}
 use Rattle.rules.specs.Tested.{sound-tested, tested-sound}
 use Rattle.rules.specs.Step.{answer, effect, Bounded, serve, step}
@@ -57,5 +57,5 @@ serve-small c interrupt t = accepts c interrupt t .small
 
 -- The fresh table is sound.
 pub fresh-sound : Sound freshTable
-unfolding count mayPrecede fits isOrdered leads smallest fresh freshTable isAble placeOf works holderOf next freshIn each isShaped ofState marksIn isTaskInRange isNoTask isNoSemaphore isNoMutex isSoundTask isSoundSemaphore isSoundMutex mayWait eachOf isSoundWait isSoundObjects isSoundQueues isWorkedOut isSoundWithin isSoundRuns isSound
+unfolding count mayPrecede fits isOrdered leads smallest fresh freshTable isAble placeOf works holderOf next freshIn each isShaped ofState marksIn isTaskInRange isNoTask isNoSemaphore isNoMutex isNoGroup asksIn isSoundTask isSoundSemaphore isSoundMutex isSoundGroup mayWait eachOf isSoundWait isSoundObjects isSoundQueues isWorkedOut isSoundWithin isSoundRuns isSound
 fresh-sound = tested-sound freshTable refl

@@ -1,7 +1,7 @@
 -- The answer of `step` is the first number in the paper's order whose condition holds (`Numbers`).
 use mathlib.Core.Path.{_≡_, refl, sym, ap, subst, _∙_}
 use mathlib.Core.Logic.{inl, inr, _↔_}
-use mathlib.Core.Bool.{Bool, true, false, cond, not, _&&_}
+use mathlib.Core.Bool.{Bool, true, false, cond, not, _&&_, _||_}
 use mathlib.Core.List.{List, [], _∷_}
 use Prim.Native.Nat.{ℕ, suc, _≤_, _<_}
 use native.Mathlib.Nat.{not-suc-le-zero, le-antisymm}
@@ -10,25 +10,26 @@ use lib.Dec.{eqb, leb}
 use lib.ListN.{length, getD}
 use borrow.Author.Tests.{eqb-true, leb-true}
 use Rattle.queue.specs.Slots.{firstAt, same}
-use Rattle.rules.specs.Sizes.{taskCount, done, beyondRange, notInUse, inUse, badValue, byInterrupt, noneRunning, whileLocked, nothingToTake, notSound}
+use Rattle.rules.specs.Sizes.{taskCount, testCount, done, beyondRange, notInUse, inUse, badValue, byInterrupt, noneRunning, whileLocked, nothingToTake, notSound}
 use Rattle.rules.specs.Table.{Table, taskOf, semaphoreOf, mutexOf, isUsed}
-use Rattle.rules.specs.Decides.{Decides, equals, at-most, fails, both, each-one}
+use Rattle.rules.specs.Decides.{Decides, equals, at-most, itself, fails, both, each-one}
 use Rattle.rules.specs.Tested.{sound}
 use Rattle.rules.specs.Task.{onTask, createAnswer, deleteAnswer, priorityAnswer, suspendAnswer, resumeAnswer}
 use Rattle.rules.specs.Time.{callerOf, byCaller, yieldAnswer, delayAnswer, delayResumeAnswer}
 use Rattle.rules.specs.Lock.{lockAnswer, unlockAnswer}
-use Rattle.rules.specs.Family.{Family, semaphores, mutexes}
+use Rattle.rules.specs.Family.{Family, semaphores, mutexes, groups}
 use Rattle.rules.specs.Object.{onObject, yesNo, blockAnswer, waitAnswerOn, onOne, objectCreateAnswer, objectDeleteAnswer, objectAbortAnswer}
 use Rattle.rules.specs.Semaphore as semaphore
 use Rattle.rules.specs.Mutex as mutex
+use Rattle.rules.specs.Group as group
 use Rattle.rules.specs.Sound.{Each, each, isSound}
 use Rattle.rules.specs.Step.{answerTo, forInterrupts, answer, serve, step}
 use Rattle.rules.specs.declared.Call.{Call}
 use Rattle.laws.specs.queues.Put.{pick}
-use Rattle.laws.specs.numbers.Presumes.{interrupted, not-not, too-great, locked, runs-locked, answers, accepts}
+use Rattle.laws.specs.numbers.Presumes.{interrupted, not-not, too-great, wrongly, locked, runs-locked, answers, accepts}
 use Rattle.laws.specs.numbers.Found.{peer, holding}
-use Rattle.laws.specs.numbers.Numbers.{paperOrder, rank, Thing, countOf, numberOf, usedIn, Creates, aTask, aSemaphore, aMutex, Deletes, semaphoreDelete, mutexDelete, AsksFor, semaphoreWait, mutexWait, Aborts, semaphoreAbort, mutexAbort, On, taskDelete, changePriority, suspend, resume, delayResume, toDelete, toAsk, toAbort, semaphorePost, mutexPost, FindsNothing, counted, held, Gets, Answered}
-use Rattle.laws.specs.numbers.Numbers.{unsound, interrupts, yieldByNone, delayByNone, waitByNone, mutexPostByNone, beyond, unused, used, createBase, changeBase, badForce, badBlock, noTicks, createQuantum, nonBlocking, lockedYield, lockedDelay, lockedWait, lockedSuspend, lockedDelete, foreign, nestedMutex, nestedLock, nestedSuspend, full, unlocked, notSuspended, notDelayed, noWaiter, noPeer, hasWaiters, holder, waits, accepted}
+use Rattle.laws.specs.numbers.Numbers.{paperOrder, rank, Thing, countOf, numberOf, usedIn, Creates, aTask, aSemaphore, aMutex, aGroup, Deletes, semaphoreDelete, mutexDelete, groupDelete, AsksFor, semaphoreWait, mutexWait, groupWait, Aborts, semaphoreAbort, mutexAbort, groupAbort, On, taskDelete, changePriority, suspend, resume, delayResume, toDelete, toAsk, toAbort, semaphorePost, mutexPost, groupPost, FindsNothing, counted, held, unmet, Gets, Answered}
+use Rattle.laws.specs.numbers.Numbers.{unsound, interrupts, yieldByNone, delayByNone, waitByNone, mutexPostByNone, beyond, unused, used, createBase, changeBase, badForce, badBlock, noTicks, createQuantum, waitNoMask, fifthTest, badConsume, postNoMask, badOn, nonBlocking, lockedYield, lockedDelay, lockedWait, lockedSuspend, lockedDelete, foreign, nestedMutex, nestedLock, nestedSuspend, full, unlocked, notSuspended, notDelayed, noWaiter, noPeer, hasWaiters, holder, waits, accepted}
 
 -- ---- no condition of an earlier number holds
 
@@ -85,6 +86,9 @@ module _ {n : ℕ} where
     yes-no : (byte : ℕ) {x : ℕ} → Soon n x → Soon n (yesNo byte x)
     yes-no byte s = past (at-most {x = 2} {y = byte}) (within badValue late) s
 
+    rightly : (mask test : ℕ) {x : ℕ} → Soon n x → Soon n (cond (eqb mask 0 || leb testCount test) badValue x)
+    rightly mask test s = past (wrongly mask test) (within badValue late) s
+
 -- The answer of a step, test by test.
 whole : (c : Call) (interrupt : Bool) (t : Table) → step c interrupt t .answer ≡ cond (isSound t) (cond (interrupt && not (forInterrupts c)) byInterrupt (answerTo c t)) notSound
 unfolding step serve answer
@@ -129,21 +133,24 @@ deletes-is : {c : Call} {f : Family} {o force : ℕ} → Deletes c f o force →
 unfolding answerTo
 deletes-is semaphoreDelete t = refl
 deletes-is mutexDelete t = refl
+deletes-is groupDelete t = refl
 
 aborts-is : {c : Call} {f : Family} {o : ℕ} → Aborts c f o → (t : Table) → answerTo c t ≡ objectAbortAnswer f o t
 unfolding answerTo
 aborts-is semaphoreAbort t = refl
 aborts-is mutexAbort t = refl
+aborts-is groupAbort t = refl
 
 asks-is : {c : Call} {f : Family} {o block : ℕ} → AsksFor c f o block → (t : Table) → (x : ℕ) × (answerTo c t ≡ waitAnswerOn f o block x t)
-unfolding answerTo semaphore.waitAnswer mutex.waitAnswer
+unfolding answerTo semaphore.waitAnswer mutex.waitAnswer group.waitAnswer
 asks-is semaphoreWait t = (_, refl)
 asks-is mutexWait t = (_, refl)
+asks-is groupWait t = (_, refl)
 
 module _ (t : Table) where
   -- A call on a thing tests the thing first, or after the caller.
   on-start : {c : Call} {x : Thing} → On c x → (P : ℕ → Type 0) → P noneRunning → ((n : ℕ) → P (onObject (countOf x) (numberOf x) (usedIn t x) n)) → P (answerTo c t)
-  unfolding countOf numberOf usedIn answerTo deleteAnswer priorityAnswer suspendAnswer resumeAnswer delayResumeAnswer objectDeleteAnswer objectAbortAnswer semaphore.waitAnswer semaphore.postAnswer mutex.waitAnswer mutex.postAnswer
+  unfolding countOf numberOf usedIn answerTo deleteAnswer priorityAnswer suspendAnswer resumeAnswer delayResumeAnswer objectDeleteAnswer objectAbortAnswer semaphore.waitAnswer semaphore.postAnswer mutex.waitAnswer mutex.postAnswer group.waitAnswer group.postAnswer
   on-start taskDelete P none on = on _
   on-start changePriority P none on = on _
   on-start suspend P none on = on _
@@ -154,18 +161,22 @@ module _ (t : Table) where
   on-start (toAbort a) P none on = rw (aborts-is a t) (on _)
   on-start semaphorePost P none on = on _
   on-start mutexPost P none on = pick P (equals {x = t .running} {y = 0}) (λ z. none) λ z. on _
+  on-start groupPost P none on = on _
 
   new-start : {c : Call} {x : Thing} → Creates c x → (P : ℕ → Type 0) → ((n : ℕ) → P (cond (leb (countOf x) (numberOf x)) beyondRange (cond (isUsed (usedIn t x)) inUse n))) → P (answerTo c t)
   unfolding countOf numberOf usedIn answerTo createAnswer objectCreateAnswer
   new-start aTask P on = on _
   new-start aSemaphore P on = on _
   new-start aMutex P on = on _
+  new-start aGroup P on = on _
 
   nothing-start : {n block : ℕ} {c : Call} → leb (rank badValue) (rank n) ≡ true → FindsNothing t block c → Soon n (blockAnswer block t) → Soon n (answerTo c t)
-  unfolding answerTo semaphore.waitAnswer mutex.waitAnswer
+  unfolding answerTo semaphore.waitAnswer mutex.waitAnswer group.waitAnswer
   nothing-start l (counted {s} {block} z) r =
       by-caller l t (on-one l semaphores t s (yes-no l block (miss done at-most (λ (h : 1 ≤ semaphoreOf t s .count). omega arith) r)))
   nothing-start l (held {m} {block} d e) r = by-caller l t (on-one l mutexes t m (yes-no l block (miss done (not-not equals) d (miss _ equals e r))))
+  nothing-start l (unmet {g} {block} {mask = mask} {test} {consume} n) r =
+      by-caller l t (on-one l groups t g (yes-no l block (rightly l mask test (yes-no l consume (miss done itself n r)))))
 
   module _ {interrupt : Bool} where
     -- A refusal of the call itself comes after 15 and 5.
@@ -174,7 +185,7 @@ module _ (t : Table) where
     own {c = c} l s = no-later c (past (sound t) (past (interrupted interrupt c) (sooner noneRunning byInterrupt l refl) s) (sooner noneRunning notSound l refl))
 
     rows : {n : ℕ} {c : Call} → Gets interrupt t n c → NoLater interrupt t n c
-    unfolding rank paperOrder firstAt answerTo createAnswer deleteAnswer priorityAnswer suspendAnswer resumeAnswer yieldAnswer delayAnswer delayResumeAnswer lockAnswer unlockAnswer objectDeleteAnswer objectAbortAnswer semaphore.waitAnswer semaphore.postAnswer mutex.waitAnswer mutex.postAnswer
+    unfolding rank paperOrder firstAt answerTo createAnswer deleteAnswer priorityAnswer suspendAnswer resumeAnswer yieldAnswer delayAnswer delayResumeAnswer lockAnswer unlockAnswer objectDeleteAnswer objectAbortAnswer semaphore.waitAnswer semaphore.postAnswer mutex.waitAnswer mutex.postAnswer group.waitAnswer group.postAnswer
     rows {c = c} (unsound s) = no-later c (miss _ (sound t) s itself-soon)
     rows {c = c} (interrupts e f) = no-later c (past (sound t) (hit _ (interrupted interrupt c) (e, f)) (within notSound refl))
     rows (yieldByNone z) = own refl (hit _ equals z)
@@ -192,6 +203,11 @@ module _ (t : Table) where
     rows (badBlock {f = f} {o} w h) = own refl (rw (asks-is w t .1) (by-caller refl t (on-one refl f t o (hit _ at-most h))))
     rows (noTicks z) = own refl (by-caller refl t (hit _ equals z))
     rows (createQuantum {i} {base} {quantum} h) = own refl (on-new refl taskCount i (taskOf t i .used) (hit _ (too-great base quantum) (inr h)))
+    rows (waitNoMask {g} {block} {mask = mask} {test} z) = own refl (by-caller refl t (on-one refl groups t g (yes-no refl block (hit _ (wrongly mask test) (inl z)))))
+    rows (fifthTest {g} {block} {mask = mask} {test} h) = own refl (by-caller refl t (on-one refl groups t g (yes-no refl block (hit _ (wrongly mask test) (inr h)))))
+    rows (badConsume {g} {block} {mask = mask} {test} h) = own refl (by-caller refl t (on-one refl groups t g (yes-no refl block (rightly refl mask test (hit _ at-most h)))))
+    rows (postNoMask {g} z) = own refl (on-one refl groups t g (hit _ equals z))
+    rows (badOn {g} {mask} h) = own refl (on-one refl groups t g (past (equals {x = mask} {y = 0}) (within badValue refl) (hit _ at-most h)))
     rows (nonBlocking f z) = own refl (nothing-start refl f (hit _ equals z))
     rows (lockedYield d) = own refl (by-caller refl t (hit _ (locked t) d))
     rows (lockedDelay {n} d) = own refl (by-caller refl t (past (equals {x = n} {y = 0}) (within badValue refl) (hit _ (locked t) d)))

@@ -5,25 +5,27 @@ use mathlib.Core.Logic.{_⊎_, inl, inr, ⊎-elim, _≢_}
 use mathlib.Core.Bool.{Bool, true, false, cond, not, _&&_, _||_, false≢true}
 use Prim.Native.Nat.{ℕ, _≤_, _<_}
 use native.Mathlib.Omega.{arith}
-use lib.Dec.{ltb, leb}
-use Rattle.rules.specs.Sizes.{taskCount, semaphoreCount, mutexCount, lastPriority, mostNested, mostQuantum, mostCount, delayed, done, beyondRange, inUse, notSound}
-use Rattle.rules.specs.Table.{Table, taskOf, semaphoreOf, mutexOf, firstIn, written, isUsed}
+use lib.Dec.{eqb, ltb, leb}
+use Rattle.rules.specs.Sizes.{taskCount, semaphoreCount, mutexCount, groupCount, testCount, lastPriority, mostNested, mostQuantum, mostCount, delayed, done, beyondRange, inUse, notSound}
+use Rattle.rules.specs.Table.{Table, asking, taskOf, semaphoreOf, mutexOf, groupOf, firstIn, written, isUsed}
 use Rattle.rules.specs.Decides.{Decides, equals, at-most, itself, fails, either, both}
 use Rattle.rules.specs.Move.{isRunning, hasPeer}
 use Rattle.rules.specs.Task.{isLocked, createAnswer, deleteAnswer, priorityAnswer, suspendAnswer, resumeAnswer}
 use Rattle.rules.specs.Time.{callerOf, yieldAnswer, delayAnswer, delayResumeAnswer}
 use Rattle.rules.specs.Lock.{lockAnswer, unlockAnswer}
-use Rattle.rules.specs.Family.{Family, waitersOf, semaphores, mutexes}
+use Rattle.rules.specs.Family.{Family, waitersOf, semaphores, mutexes, groups}
 use Rattle.rules.specs.Object.{onObject, blockAnswer, waitAnswerOn, objectCreateAnswer, objectDeleteAnswer, objectAbortAnswer}
 use Rattle.rules.specs.Semaphore as semaphore
 use Rattle.rules.specs.Mutex as mutex
+use Rattle.rules.specs.Group.{flagsOf, isMet}
+use Rattle.rules.specs.Group as group
 use Rattle.rules.specs.Step.{changes, answerTo, forInterrupts, answer}
 use Rattle.rules.specs.declared.Call.{Call}
-use Rattle.rules.specs.declared.Call.the-variants.{TaskCreate, TaskDelete, ChangePriority, Suspend, Resume, Yield, Delay, DelayResume, Lock, Unlock, Tick, SemaphoreCreate, SemaphoreDelete, SemaphoreWait, SemaphorePost, SemaphoreAbort, MutexCreate, MutexDelete, MutexWait, MutexPost, MutexAbort}
+use Rattle.rules.specs.declared.Call.the-variants.{TaskCreate, TaskDelete, ChangePriority, Suspend, Resume, Yield, Delay, DelayResume, Lock, Unlock, Tick, SemaphoreCreate, SemaphoreDelete, SemaphoreWait, SemaphorePost, SemaphoreAbort, MutexCreate, MutexDelete, MutexWait, MutexPost, MutexAbort, GroupCreate, GroupDelete, GroupWait, GroupPost, GroupAbort}
 use Rattle.laws.specs.queues.Put.{pick, pick-not}
 use Rattle.laws.specs.numbers.Found.{peer, holding}
-use Rattle.laws.specs.numbers.Numbers.{Thing, object, countOf, numberOf, usedIn, Creates, aTask, aSemaphore, aMutex, Deletes, semaphoreDelete, mutexDelete, AsksFor, semaphoreWait, mutexWait, Aborts, semaphoreAbort, mutexAbort, On, taskDelete, changePriority, suspend, resume, delayResume, toDelete, toAsk, toAbort, semaphorePost, mutexPost, FindsNothing, counted, held, Holds, Gets}
-use Rattle.laws.specs.numbers.Numbers.{interrupts, yieldByNone, delayByNone, waitByNone, mutexPostByNone, beyond, unused, used, createBase, changeBase, badForce, badBlock, noTicks, createQuantum, nonBlocking, lockedYield, lockedDelay, lockedWait, lockedSuspend, lockedDelete, foreign, nestedMutex, nestedLock, nestedSuspend, full, unlocked, notSuspended, notDelayed, noWaiter, noPeer, hasWaiters, holder, waits, accepted}
+use Rattle.laws.specs.numbers.Numbers.{Thing, object, countOf, numberOf, usedIn, Creates, aTask, aSemaphore, aMutex, aGroup, Deletes, semaphoreDelete, mutexDelete, groupDelete, AsksFor, semaphoreWait, mutexWait, groupWait, Aborts, semaphoreAbort, mutexAbort, groupAbort, On, taskDelete, changePriority, suspend, resume, delayResume, toDelete, toAsk, toAbort, semaphorePost, mutexPost, groupPost, FindsNothing, counted, held, unmet, Holds, Gets}
+use Rattle.laws.specs.numbers.Numbers.{interrupts, yieldByNone, delayByNone, waitByNone, mutexPostByNone, beyond, unused, used, createBase, changeBase, badForce, badBlock, noTicks, createQuantum, waitNoMask, fifthTest, badConsume, postNoMask, badOn, nonBlocking, lockedYield, lockedDelay, lockedWait, lockedSuspend, lockedDelete, foreign, nestedMutex, nestedLock, nestedSuspend, full, unlocked, notSuspended, notDelayed, noWaiter, noPeer, hasWaiters, holder, waits, accepted}
 
 -- ---- what is accepted
 
@@ -60,6 +62,13 @@ Presumes (MutexWait m block limit) t =
     × (mutexOf t m .holder ≢ 0 → mutexOf t m .holder ≢ written (callerOf t) → t .depth ≡ 0)
 Presumes (MutexPost m) t = (t .running ≢ 0) × (m < mutexCount) × (mutexOf t m .used ≡ 1) × (mutexOf t m .holder ≡ written (callerOf t))
 Presumes (MutexAbort m) t = MayAbort mutexes m t
+Presumes (GroupCreate g flags) t = MayCreate groups g t
+Presumes (GroupDelete g force) t = g < groupCount
+Presumes (GroupWait g block limit mask test consume) t =
+    (t .running ≢ 0) × (g < groupCount) × (groupOf t g .used ≡ 1) × (mask ≢ 0) × (test < testCount) × (consume ≤ 1)
+    × (isMet (flagsOf t g) (asking mask test consume) ≢ true → t .depth ≡ 0)
+Presumes (GroupPost g mask on) t = (g < groupCount) × (groupOf t g .used ≡ 1)
+Presumes (GroupAbort g) t = MayAbort groups g t
 
 -- ---- tests
 
@@ -82,6 +91,10 @@ not-not {b} {B} d = go b d
 -- A base priority or a quantum that is too great.
 pub too-great : (base quantum : ℕ) → Decides (ltb lastPriority base || ltb mostQuantum quantum) ((lastPriority < base) ⊎ (mostQuantum < quantum))
 too-great base quantum = either at-most at-most
+
+-- "a mask of 0 or a fifth test"
+pub wrongly : (mask test : ℕ) → Decides (eqb mask 0 || leb testCount test) ((mask ≡ 0) ⊎ (testCount ≤ test))
+wrongly mask test = either equals at-most
 
 -- The scheduler is locked.
 pub locked : (t : Table) → Decides (isLocked t) (t .depth ≢ 0)
@@ -154,7 +167,7 @@ module _ {interrupt : Bool} {t : Table} {c : Call} where
 module _ (interrupt : Bool) (t : Table) where
   -- Each call made by a task.
   pub answers : (c : Call) → Answers interrupt t c (answerTo c t)
-  unfolding countOf numberOf usedIn answerTo createAnswer deleteAnswer priorityAnswer suspendAnswer resumeAnswer yieldAnswer delayAnswer delayResumeAnswer lockAnswer unlockAnswer semaphore.waitAnswer semaphore.postAnswer mutex.waitAnswer mutex.postAnswer
+  unfolding countOf numberOf usedIn answerTo createAnswer deleteAnswer priorityAnswer suspendAnswer resumeAnswer yieldAnswer delayAnswer delayResumeAnswer lockAnswer unlockAnswer semaphore.waitAnswer semaphore.postAnswer mutex.waitAnswer mutex.postAnswer group.waitAnswer group.postAnswer
   answers (TaskCreate i base quantum) =
       new-one (aTask {i = i}) λ l u.
       past (too-great base quantum) refl (⊎-elim createBase createQuantum) λ v.
@@ -200,6 +213,17 @@ module _ (interrupt : Bool) (t : Table) where
       finds-nothing (held d other) λ z. (c, l, u, (λ e. absurd (other e)), λ d e. z)
   answers (MutexPost m) = past equals refl mutexPostByNone λ c. on-it (mutexPost {m = m}) λ l u. unless equals refl foreign λ own. accept (c, l, u, own)
   answers (MutexAbort m) = abort-answers mutexAbort λ p. p
+  answers (GroupCreate g flags) = create-answers aGroup λ p. p
+  answers (GroupDelete g force) = delete-answers groupDelete λ l. l
+  answers (GroupWait g block limit mask test consume) =
+      wait-answers groupWait λ c l u.
+      past (wrongly mask test) refl (⊎-elim waitNoMask fifthTest) λ v.
+      past at-most refl badConsume λ (w : 1 < consume → ⊥).
+      let fits : testCount ≤ test → ⊥ = λ x. v (inr x) in
+      branch itself (λ met. accept (c, l, u, (λ z. v (inl z)), omega arith, omega arith, λ n. absurd (n met))) λ n.
+      finds-nothing (unmet n) λ z. (c, l, u, (λ e. v (inl e)), omega arith, omega arith, λ e. z)
+  answers (GroupPost g mask on) = on-it (groupPost {g = g}) λ l u. past equals refl postNoMask λ m. past at-most refl badOn λ n. accept (l, u)
+  answers (GroupAbort g) = abort-answers groupAbort λ p. p
 
 -- Each call, whoever made it.
 pub accepts : (c : Call) (interrupt : Bool) (t : Table) → Answers interrupt t c (answer c interrupt t)

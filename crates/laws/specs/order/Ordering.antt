@@ -6,8 +6,8 @@ use Prim.Native.Nat.{ℕ, _+_, _-_, _≤_, _<_}
 use native.Mathlib.Omega.{arith}
 use lib.Dec.{ltb}
 use lib.ListN.{length-set}
-use Rattle.rules.specs.Sizes.{taskCount, semaphoreCount, mutexCount, given, aborted, objectDeleted}
-use Rattle.rules.specs.Table.{Table, taskOf, mutexOf, semaphoreOf, queueOf, queueCount, ableQueue, mutexQueue, firstIn, written, noTask, withCount, withHold, withBase, withState}
+use Rattle.rules.specs.Sizes.{taskCount, semaphoreCount, mutexCount, groupCount, given, aborted, objectDeleted}
+use Rattle.rules.specs.Table.{Table, Asked, nothingAsked, asking, taskOf, mutexOf, semaphoreOf, groupOf, queueOf, queueCount, ableQueue, mutexQueue, firstIn, written, noTask, withCount, withHold, withFlags, withBase, withState, withAsked}
 use Rattle.rules.specs.Decides.{equals, itself}
 use Rattle.rules.specs.Move.{put, walk, next, ended}
 use Rattle.rules.specs.Task.{create, delete, changePriority, suspend, resume}
@@ -18,12 +18,14 @@ use Rattle.rules.specs.Object.{emptied, limited, blocked, waits, taken, abort, 
 use Rattle.rules.specs.Semaphore as semaphore
 use Rattle.rules.specs.Mutex.{withHoldOf, isHeld, isOwn}
 use Rattle.rules.specs.Mutex as mutex
+use Rattle.rules.specs.Group.{isMet, consumed, turnedOver, posted, flagsOf}
+use Rattle.rules.specs.Group as group
 use Rattle.rules.specs.Kinds.{toldIn, spelled}
 use Rattle.rules.specs.Step.{changeBy, forInterrupts, answer, effect, changes, serve, step}
 use Rattle.rules.specs.Sound.{Sound, SoundQueues}
 use Rattle.rules.specs.declared.Task.{Task}
 use Rattle.rules.specs.declared.Call.{Call}
-use Rattle.rules.specs.declared.Call.the-variants.{TaskCreate, TaskDelete, ChangePriority, Suspend, Resume, Yield, Delay, DelayResume, Lock, Unlock, Tick, SemaphoreCreate, SemaphoreDelete, SemaphoreWait, SemaphorePost, SemaphoreAbort, MutexCreate, MutexDelete, MutexWait, MutexPost, MutexAbort}
+use Rattle.rules.specs.declared.Call.the-variants.{TaskCreate, TaskDelete, ChangePriority, Suspend, Resume, Yield, Delay, DelayResume, Lock, Unlock, Tick, SemaphoreCreate, SemaphoreDelete, SemaphoreWait, SemaphorePost, SemaphoreAbort, MutexCreate, MutexDelete, MutexWait, MutexPost, MutexAbort, GroupCreate, GroupDelete, GroupWait, GroupPost, GroupAbort}
 use Rattle.laws.specs.queues.Rows.{waiting, first-queue, last-queue}
 use Rattle.laws.specs.queues.Stands.{free-place, not-able, first-there, able-stands}
 use Rattle.laws.specs.queues.Put.{whichever, pick, pick-not, task-put-same, place-same, sized}
@@ -36,11 +38,11 @@ use Rattle.laws.specs.numbers.Presumes.{Presumes, accepts}
 use Rattle.laws.specs.keeps.Sounds.{step-serve}
 use Rattle.laws.specs.order.Order.{Before, Stayed, Rotated, yields, OrderKept}
 use Rattle.laws.specs.order.Moved.{Two, Same, Oneway, same-goes, Moved, Walks, walks-oneway, put-kept, moved-on, put-moved, same-moved, apart-moved, rotate-moved, walk-moved}
-use Rattle.laws.specs.order.Rising.{freed-goes, rises-oneway, ended-rises, all-rise, ticked-rises}
+use Rattle.laws.specs.order.Rising.{freed-goes, rises-oneway, ended-rises, all-rise, woken-rise, ticked-rises}
 use Rattle.laws.specs.numbers.Found.{peer}
 use Rattle.laws.specs.keeps.Ending.{emptied-all}
 use Rattle.laws.specs.keeps.Moves.{sound-before, Waiter, stored-keeps}
-use Rattle.laws.specs.keeps.Families.{waiter-of, Lawful, semaphores-lawful, mutexes-lawful}
+use Rattle.laws.specs.keeps.Families.{waiter-of, Lawful, semaphores-lawful, mutexes-lawful, groups-lawful}
 
 -- ---- what is to be shown
 
@@ -175,10 +177,10 @@ module _ {q a b : ℕ} (m : q < queueCount) (two : Two a b) where
     taken-kept r = one-kept _ _ r
 
     -- The caller leaves the able queue.
-    waits-kept : {f : Family} → Lawful f → (o limit : ℕ) → t .running ≢ 0 → KeepsOrder q a b t (waits f o limit t)
+    waits-kept : {f : Family} → Lawful f → (o limit : ℕ) (asked : Asked) → t .running ≢ 0 → KeepsOrder q a b t (waits f o limit asked t)
     unfolding waits blocked
-    waits-kept {f} n o limit r =
-        let k = withState (f .state) o (limited limit t (caller t)) in
+    waits-kept {f} n o limit asked r =
+        let k = withAsked asked (withState (f .state) o (limited limit t (caller t))) in
         chain-kept (callerOf t) k (f .holder t o) queued
         (λ x y. not-able k (λ e. omega (arith, waiting (n .among))) (y ∙ sym x ∙ able-stands (caller t) (caller-able queued (s .runs) r)))
 
@@ -186,7 +188,7 @@ module _ {q a b : ℕ} (m : q < queueCount) (two : Two a b) where
     unfolding semaphore.wait
     semaphoreWait-kept n limit r =
         let x = withCount (semaphoreOf t n .count - 1) (semaphoreOf t n) in
-        whichever (KeepsOrder q a b t) (semaphores .offers t n) (taken-kept (same-queued queued refl refl (length-set (t .semaphores) n x) refl)) (waits-kept semaphores-lawful n limit r)
+        whichever (KeepsOrder q a b t) (semaphores .offers t n) (taken-kept (same-queued queued refl refl (length-set (t .semaphores) n x) refl refl)) (waits-kept semaphores-lawful n limit nothingAsked r)
 
     mutexWait-kept : (n limit : ℕ) → t .running ≢ 0 → KeepsOrder q a b t (mutex.wait n limit t)
     unfolding mutex.wait
@@ -195,14 +197,24 @@ module _ {q a b : ℕ} (m : q < queueCount) (two : Two a b) where
         let nested = withHold (mutexOf t n .holder) (mutexOf t n .nesting + 1) (mutexOf t n) in
         whichever (KeepsOrder q a b t) (not (isHeld n t))
         (taken-kept (mutex-queued n own queued))
-        (whichever (KeepsOrder q a b t) (isOwn n t) (taken-kept (mutex-queued n nested queued)) (waits-kept mutexes-lawful n limit r))
+        (whichever (KeepsOrder q a b t) (isOwn n t) (taken-kept (mutex-queued n nested queued)) (waits-kept mutexes-lawful n limit nothingAsked r))
+
+    groupWait-kept : (g limit : ℕ) (asked : Asked) → t .running ≢ 0 → KeepsOrder q a b t (group.wait g limit asked t)
+    unfolding group.wait
+    groupWait-kept g limit asked r =
+        let x = withFlags (turnedOver (consumed (flagsOf t g) asked) (flagsOf t g)) (groupOf t g) in
+        whichever (KeepsOrder q a b t) (isMet (flagsOf t g) asked) (taken-kept (same-queued queued refl refl refl refl (length-set (t .groups) g x))) (waits-kept groups-lawful g limit asked r)
+
+    groupPost-kept : (g mask on : ℕ) → g < groupCount → KeepsOrder q a b t (group.post g mask on t)
+    unfolding group.post
+    groupPost-kept g mask on l = moved-kept (woken-rise two taskCount g (posted mask on (flagsOf t g)) 0 0 l t (sound-before s))
 
     -- ---- all calls
 
     -- Of a call that is accepted; an interrupt's yield is not.
     change-kept : (c : Call) (interrupt : Bool) → changes (answer c interrupt t) ≡ true → Presumes c t
         → (Rotated c interrupt t a → ⊥) → (Rotated c interrupt t b → ⊥) → KeepsOrder q a b t (changeBy c t)
-    unfolding answer toldIn spelled forInterrupts changeBy create suspend resume delay delayResume lock unlock semaphore.create mutex.create
+    unfolding answer toldIn spelled forInterrupts changeBy create suspend resume delay delayResume lock unlock semaphore.create mutex.create group.create
     change-kept (TaskCreate i base quantum) by e h x y = one-kept i _ queued
     change-kept (TaskDelete i) by e h x y = delete-kept i
     change-kept (ChangePriority i base) by e h x y = priority-kept i base
@@ -225,6 +237,11 @@ module _ {q a b : ℕ} (m : q < queueCount) (two : Two a b) where
     change-kept (MutexWait n block limit) by e h x y = mutexWait-kept n limit (h .0)
     change-kept (MutexPost n) by e h x y = mutexPost-kept n (h .1)
     change-kept (MutexAbort n) by e (l, z) x y = objectAbort-kept mutexes-lawful n l z
+    change-kept (GroupCreate g flags) by e h x y = unmoved
+    change-kept (GroupDelete g force) by e l x y = objectDelete-kept groups-lawful g l
+    change-kept (GroupWait g block limit mask test consume) by e h x y = groupWait-kept g limit (asking mask test consume) (h .0)
+    change-kept (GroupPost g mask on) by e (l, u) x y = groupPost-kept g mask on l
+    change-kept (GroupAbort g) by e (l, z) x y = objectAbort-kept groups-lawful g l z
 
 -- ---- the law
 

@@ -5,20 +5,22 @@ use mathlib.Core.Logic.{_⊎_, inl, inr, _≢_}
 use mathlib.Core.Bool.{Bool}
 use Prim.Native.Nat.{ℕ, zero, suc, _+_, _-_, _%_, _≤_, _<_}
 use native.Mathlib.Omega.{arith}
+use lib.Bits.{bitOr}
 use borrow.Author.Tests.{ne-eqb}
-use Rattle.rules.specs.Sizes.{taskCount, ticksRound, waitsSemaphore, objectDeleted}
+use Rattle.rules.specs.Sizes.{taskCount, groupCount, ticksRound, waitsSemaphore, given, objectDeleted}
 use Rattle.rules.specs.Chain.{Leads, Ends, fresh}
 use Rattle.rules.specs.Afresh.{more, fresh-is}
 use Rattle.rules.specs.Decides.{equals, either, both}
-use Rattle.rules.specs.Table.{Table, taskOf, queueCount, ableQueue, firstIn, isAble, withLeft, withTick, holderOf}
+use Rattle.rules.specs.Table.{Table, taskOf, queueCount, ableQueue, groupQueue, slotIn, firstIn, isAble, askedBy, withLeft, withTick, holderOf}
 use Rattle.rules.specs.Family.{placeOf}
 use Rattle.rules.specs.Move.{put, rotate, walk, next, baseOf, away, ready, ended, endedAll}
 use Rattle.rules.specs.Time.{callerOf}
+use Rattle.rules.specs.Group.{isMet, consumed, woken}
 use Rattle.rules.specs.Tick.{turned, dueEnded, dueBelow, ticked}
 use Rattle.rules.specs.Sound.{Sound, SoundQueues, SoundWithin}
 use Rattle.rules.specs.declared.Task.{Task}
 use Rattle.rules.specs.declared.Call.the-variants.{Tick}
-use Rattle.laws.specs.queues.Put.{sized, pick, able-left, task-put-same, part-put, place-same}
+use Rattle.laws.specs.queues.Put.{sized, pick, whichever₃, able-left, task-put-same, part-put, place-same}
 use Rattle.laws.specs.chains.Change.{carry, out-not}
 use Rattle.laws.specs.queues.Queues.{put-queued, walk-queued}
 use Rattle.laws.specs.queues.Stands.{no-waiter, not-able}
@@ -29,7 +31,7 @@ use Rattle.laws.specs.numbers.Found.{peer}
 use Rattle.laws.specs.order.Order.{Peer, Rotated, usedUp}
 use Rattle.laws.specs.keeps.Running.{caller-able}
 use Rattle.laws.specs.keeps.Moves.{Midway, BeforeChoice, Waiter, ended-keeps}
-use Rattle.laws.specs.keeps.Ending.{first-waiter, due, dueOutcome, due-outcome, marked-waiter, dues-keep, counted-keeps, turned-keeps}
+use Rattle.laws.specs.keeps.Ending.{slot-waiter, first-waiter, due, dueOutcome, due-outcome, marked-waiter, dues-keep, counted-keeps, turned-keeps}
 use Rattle.laws.specs.order.Moved.{Two, nearness, Onward, Oneway, Goes, same-goes, Moved, Walks, walks-oneway, moved-on, put-moved, same-moved, rotate-moved, walk-moved}
 
 -- ---- fewer waits
@@ -140,6 +142,20 @@ module _ {a b : ℕ} (two : Two a b) where
       pick (Moved Rises a b t) equals
       (λ e. same-moved two rises-oneway t t refl refl)
       (λ z. let w = first-waiter (h .settled) q m d z in moved-on two rises-oneway (ended-rises h w outcome o) (all-rise n outcome q o m d (ended outcome (firstIn q t - 1) t) (ended-keeps h w outcome o)))
+
+  -- Those of a group whose test is met.
+  pub woken-rise : (n g flags k together : ℕ) → g < groupCount → (t : Table) → BeforeChoice t → Moved Rises a b t (woken n g flags k together t)
+  unfolding woken
+  woken-rise zero g flags k together l t h = same-moved two rises-oneway t _ refl refl
+  woken-rise (suc n) g flags k together l t h =
+      pick (Moved Rises a b t) equals (λ e. same-moved two rises-oneway t _ refl refl)
+      (λ some.
+      let i = slotIn (groupQueue g) k t - 1 in
+      let asked = askedBy (taskOf t i) in
+      let w = slot-waiter (h .settled) (groupQueue g) (omega arith) (λ e. omega arith) k some in
+      whichever₃ (λ k together u. Moved Rises a b t (woken n g flags k together u)) (isMet flags asked)
+      (moved-on two rises-oneway (ended-rises h w given (omega arith)) (woken-rise n g flags k (bitOr together (consumed flags asked)) l (ended given i t) (ended-keeps h w given (omega arith))))
+      (woken-rise n g flags (k + 1) together l t h))
 
   -- Those of the first n tasks that are due.
   due-rises : (i : ℕ) → i < taskCount → (t : Table) → Midway i t → Moved Rises a b t (dueEnded i t)

@@ -16,7 +16,7 @@ abbrev pub rest : Table → Table
 rest t = withTasks [] (withQueues [] t)
 
 abbrev pub frame : Table → Table
-frame t = record { tasks = []; semaphores = []; mutexes = []; queues = []; tick = t .tick; depth = t .depth; running = t .running }
+frame t = record { tasks = []; semaphores = []; mutexes = []; groups = []; queues = []; tick = t .tick; depth = t .depth; running = t .running }
 
 -- The same lists, in another frame: `withTick`, `withDepth` and `withRunning` are such.
 abbrev pub framed : (tick depth running : ℕ) → Table → Table

@@ -29,6 +29,11 @@ pub whichever : {A : Type 0} (P : A → Type 0) (b : Bool) {x y : A} → P x →
 whichever P true p q = p
 whichever P false p q = q
 
+-- The same of three that turn on one test.
+pub whichever₃ : {A B C : Type 0} (P : A → B → C → Type 0) (b : Bool) {x u : A} {y v : B} {z w : C} → P x y z → P u v w → P (cond b x u) (cond b y v) (cond b z w)
+whichever₃ P true h k = h
+whichever₃ P false h k = k
+
 -- The one or the other, as the test decides.
 pub pick : {A : Type 0} (P : A → Type 0) {b : Bool} {x y : A} {B : Type 0} → Decides b B → (B → P x) → ((B → ⊥) → P y) → P (cond b x y)
 pick {A} P {b} {x} {y} {B} d f g = go b d
@@ -196,13 +201,14 @@ queue-shaped q l t e s =
       tasks = s .tasks;
       semaphores = s .semaphores;
       mutexes = s .mutexes;
+      groups = s .groups;
       queues = length-set (t .queues) q l ∙ s .queues;
       slots = λ p m. part-set length (t .queues) q l p [] e ∙ s .slots p m;
     }
 
 pub task-shaped : {t : Table} (i : ℕ) (k : Task) → Shaped t → Shaped (withTask i k t)
 task-shaped {t} i k s =
-    record { tasks = length-set (t .tasks) i k ∙ s .tasks; semaphores = s .semaphores; mutexes = s .mutexes; queues = s .queues; slots = s .slots }
+    record { tasks = length-set (t .tasks) i k ∙ s .tasks; semaphores = s .semaphores; mutexes = s .mutexes; groups = s .groups; queues = s .queues; slots = s .slots }
 
 pub put-shaped : {t : Table} (i : ℕ) (k : Task) → Shaped t → Shaped (put i k t)
 put-shaped {t} i k s = put-any Shaped queue-shaped i k t s (task-shaped i k s)

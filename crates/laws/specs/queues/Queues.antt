@@ -225,15 +225,16 @@ rotate-queued {t} i s l able = right-queued (rotate-shaped i (s .shaped)) (λ q 
 -- ---- all that leaves tasks and queues as they are
 
 pub same-queued : {t u : Table} → SoundQueues t → u .tasks ≡ t .tasks → u .queues ≡ t .queues → length (u .semaphores) ≡ length (t .semaphores) → length (u .mutexes) ≡ length (t .mutexes)
-    → SoundQueues u
+    → length (u .groups) ≡ length (t .groups) → SoundQueues u
 unfolding works
-same-queued {t} {u} s tasks queues semaphores mutexes =
+same-queued {t} {u} s tasks queues semaphores mutexes groups =
     record {
       shaped =
           record {
             tasks = rw tasks (s .shaped .tasks);
             semaphores = semaphores ∙ s .shaped .semaphores;
             mutexes = mutexes ∙ s .shaped .mutexes;
+            groups = groups ∙ s .shaped .groups;
             queues = rw queues (s .shaped .queues);
             slots = rw queues (s .shaped .slots);
           };
@@ -243,4 +244,4 @@ same-queued {t} {u} s tasks queues semaphores mutexes =
     }
 
 pub mutex-queued : {t : Table} (m : ℕ) (x : Mutex) → SoundQueues t → SoundQueues (withMutex m x t)
-mutex-queued {t} m x h = same-queued h refl refl refl (length-set (t .mutexes) m x)
+mutex-queued {t} m x h = same-queued h refl refl refl (length-set (t .mutexes) m x) refl

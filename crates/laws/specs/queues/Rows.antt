@@ -11,7 +11,7 @@ use lib.ListN.{length}
 use borrow.Author.Tests.{eqb-true, eqb-false, eq-eqb, ne-eqb}
 use Rattle.rules.specs.Sizes.{delayed}
 use Rattle.rules.specs.Table.{queueCount, ableQueue}
-use Rattle.rules.specs.Family.{Family, waitersOf, semaphores, mutexes, families, lastState, Among, this, other, ofState, objectsIn}
+use Rattle.rules.specs.Family.{Family, waitersOf, semaphores, mutexes, groups, families, lastState, Among, this, other, ofState, objectsIn}
 
 -- From this state and this queue on, up to this queue.
 pub data Laid : (state queue end : ℕ) → List Family → Type 0 where
@@ -20,7 +20,7 @@ pub data Laid : (state queue end : ℕ) → List Family → Type 0 where
 
 -- The families are so.
 pub laid : Laid (delayed + 1) (ableQueue + 1) queueCount families
-laid = more (more over)
+laid = more (more (more over))
 
 pub among-semaphores : Among semaphores families
 among-semaphores = this
@@ -28,10 +28,14 @@ among-semaphores = this
 pub among-mutexes : Among mutexes families
 among-mutexes = other this
 
+pub among-groups : Among groups families
+among-groups = other (other this)
+
 -- What holds of each of them.
-pub of-families : (P : Family → Type 0) → P semaphores → P mutexes → (f : Family) → Among f families → P f
-of-families P x y f this = x
-of-families P x y f (other this) = y
+pub of-families : (P : Family → Type 0) → P semaphores → P mutexes → P groups → (f : Family) → Among f families → P f
+of-families P x y z f this = x
+of-families P x y z f (other this) = y
+of-families P x y z f (other (other this)) = z
 
 -- ---- a row of any length
 

@@ -1,4 +1,4 @@
--- Where a task stands, and what the front slot of a queue says of the tasks.
+-- Where a task stands, and what the slots of a queue say of the tasks.
 use mathlib.Core.Path.{_≡_, refl, sym, ap, subst, _∙_}
 use mathlib.Core.Logic.{_⊎_, inl, inr, ⊎-elim, _≢_}
 use mathlib.Core.Bool.{Bool, true, false, cond}
@@ -7,14 +7,15 @@ use Prim.Native.Nat.{ℕ, _+_, _-_, _≤_, _<_}
 use native.Mathlib.Decide.{ℕ-discrete}
 use native.Mathlib.Omega.{arith}
 use lib.Dec.{eqb}
-use lib.ListN.{getD}
+use lib.ListN.{length, getD, List·getD-eq-default}
 use borrow.Author.Tests.{eqb-true, eqb-false, eq-eqb, ne-eqb}
 use Rattle.queue.specs.Slots.{keyOf}
 use Rattle.queue.specs.Order.{All, none, more, Ordered, empty, front, count}
 use Rattle.queue.specs.Keeps.{key-own}
 use Rattle.queue.specs.Stands.{one-other, stands-at, stands-some}
 use Rattle.rules.specs.Sizes.{taskCount, plain, delayed}
-use Rattle.rules.specs.Table.{Table, taskOf, queueOf, queueCount, ableQueue, firstIn, works, isAble, written, noTask}
+use Rattle.rules.specs.Table.{Table, taskOf, queueOf, queueCount, ableQueue, slotIn, firstIn, works, isAble, written, noTask}
+use Rattle.rules.specs.Afresh.{lt-or-le}
 use Rattle.rules.specs.Decides.{Decides, equals, first, last}
 use Rattle.rules.specs.Family.{Family, waitersOf, families, Among, ofState, objectsIn, placeOf}
 use Rattle.rules.specs.Sound.{Empty, once, TaskInRange, SoundTasks, MayWait, SoundObjects, SoundQueues, SoundTask}
@@ -132,7 +133,7 @@ placed-used {k} r l = go (ℕ-discrete (k .used) 0)
     go (yes z) = absurd (omega (arith, ap placeOf (r .freeZero z)))
     go (no d) = omega (arith, r .inRange .used)
 
--- ---- front slots
+-- ---- slots
 
 -- What holds of each slot holds of what is counted there.
 count-all : {P : ℕ → Type 0} {l : List ℕ} (u : ℕ) → All P l → 1 ≤ count u l → P u
@@ -155,26 +156,38 @@ front-least {keys} u z (front {x} {xs} a o) h = go (ℕ-discrete x u)
     go (no d) = ⊎-elim (λ e. absurd (z e)) (λ p. p) (count-all u a (omega (arith, one-other u x d)))
 
 module _ {t : Table} (s : SoundQueues t) (q : ℕ) (l : q < queueCount) where
-  front-stands : 1 ≤ count (firstIn q t) (queueOf t q)
-  front-stands = stands-some (firstIn q t) (queueOf t q) (stands-at (firstIn q t) 0 (queueOf t q) (omega (arith, s .shaped .slots q l)) refl)
+  module _ (k : ℕ) where
+    -- Behind the last slot none is written.
+    slot-stands : slotIn q k t ≢ 0 → 1 ≤ count (slotIn q k t) (queueOf t q)
+    slot-stands d = ⊎-elim (λ m. stands-some (slotIn q k t) (queueOf t q) (stands-at (slotIn q k t) k (queueOf t q) m refl)) (λ m. absurd (d (List·getD-eq-default (queueOf t q) 0 m))) (lt-or-le k (length (queueOf t q)))
 
-  -- The front slot holds a task or none,
+    -- A slot holds a task or none,
+    pub slot-range : slotIn q k t ≤ taskCount
+    slot-range = go (ℕ-discrete (slotIn q k t) 0)
+      where
+        go : Dec (slotIn q k t ≡ 0) → slotIn q k t ≤ taskCount
+        go (yes e) = omega arith
+        go (no n) = count-all (slotIn q k t) (s .nothingElse q l) (slot-stands n)
+
+    -- and that task stands there.
+    pub slot-there : slotIn q k t ≢ 0 → placeOf (taskOf t (slotIn q k t - 1)) ≡ q
+    slot-there d = go (ℕ-discrete (placeOf (taskOf t i)) q)
+      where
+        i : ℕ
+        i = slotIn q k t - 1
+
+        go : Dec (placeOf (taskOf t i) ≡ q) → placeOf (taskOf t i) ≡ q
+        go (yes e) = e
+        go (no n) =
+            let w : written i ≡ slotIn q k t = omega arith in
+            let z : count (written i) (queueOf t q) ≡ 0 = s .places q l i (omega (arith, slot-range)) ∙ ap once (ne-eqb _ _ n) in
+            absurd (omega (arith, slot-stands d, ap (λ (v : ℕ). count v (queueOf t q)) w))
+
   pub first-range : firstIn q t ≤ taskCount
-  first-range = count-all (firstIn q t) (s .nothingElse q l) front-stands
+  first-range = slot-range 0
 
-  -- and that task stands there.
   pub first-there : firstIn q t ≢ 0 → placeOf (taskOf t (firstIn q t - 1)) ≡ q
-  first-there d = go (ℕ-discrete (placeOf (taskOf t i)) q)
-    where
-      i : ℕ
-      i = firstIn q t - 1
-
-      go : Dec (placeOf (taskOf t i) ≡ q) → placeOf (taskOf t i) ≡ q
-      go (yes e) = e
-      go (no n) =
-          let w : written i ≡ firstIn q t = omega arith in
-          let z : count (written i) (queueOf t q) ≡ 0 = s .places q l i (omega (arith, first-range)) ∙ ap once (ne-eqb _ _ n) in
-          absurd (omega (arith, front-stands, ap (λ (v : ℕ). count v (queueOf t q)) w))
+  first-there = slot-there 0
 
   -- No task that stands there is more urgent.
   before : (j : ℕ) → j < taskCount → placeOf (taskOf t j) ≡ q → (firstIn q t ≢ 0) × (keyOf (works t) (firstIn q t) ≤ keyOf (works t) (written j))

@@ -1,6 +1,6 @@
 use borrow.Author.Tests.{not-true, not-false}
 use mathlib.Core.Path.{sym, _∙_}
-use Rattle.port.specs.Ways.{step-wrong, step-unsound, step-by-six}
+use Rattle.port.specs.Ways.{step-wrong, step-unsound, step-sound}
 use Rattle.port.proofs.Laws.{gives-by, gives-answered, gives-unsound}
 use borrow.Author.Needs.{needs}
 use Rattle.port.proofs.ntk_step.Statement.{statement}
@@ -9,14 +9,14 @@ use Rattle.port.proofs.ntk_step.Tie as tie
 returns : tie.Need-returns
 returns c =
     let a = c .before .before .before .args in
-    gives-by (step-wrong (a .kind) (a .a) (a .b) (a .c) (a .image .now) (c .before .if1 .taken)) (gives-unsound (a .image .now) (c .not-sound .ensures .0) (c .not-sound .ensures .1))
+    gives-by (step-wrong (a .kind) (a .a) (a .b) (a .c) (a .d) (a .e) (a .f) (a .image .now) (c .before .if1 .taken)) (gives-unsound (a .image .now) (c .not-sound .ensures .0) (c .not-sound .ensures .1))
 
 returns-2 : tie.Need-returns-2
 returns-2 c =
     let s = c .before .before in
     let e = s .before .before in
     let a = e .before .before .args in
-    gives-by (step-unsound (a .kind) (a .a) (a .b) (a .c) (a .image .now) (e .if1 .left) (sym (s .is-sound .ensures) ∙ not-true _ (c .before .if2 .taken))) (gives-unsound (a .image .now) (c .not-sound2 .ensures .0) (c .not-sound2 .ensures .1))
+    gives-by (step-unsound (a .kind) (a .a) (a .b) (a .c) (a .d) (a .e) (a .f) (a .image .now) (e .if1 .left) (sym (s .is-sound .ensures) ∙ not-true _ (c .before .if2 .taken))) (gives-unsound (a .image .now) (c .not-sound2 .ensures .0) (c .not-sound2 .ensures .1))
 
 returns-3 : tie.Need-returns-3
 returns-3 c =
@@ -25,7 +25,7 @@ returns-3 c =
     let s = f .before in
     let e = s .before .before in
     let a = e .before .before .args in
-    gives-by (step-by-six (a .kind) (a .a) (a .b) (a .c) (a .image .now) (e .if1 .left) (sym (s .is-sound .ensures) ∙ not-false _ (f .if2 .left))) (gives-answered (p .serve-plainly .ensures) (c .answered .ensures .0) (c .answered .ensures .1))
+    gives-by (step-sound (a .kind) (a .a) (a .b) (a .c) (a .d) (a .e) (a .f) (a .image .now) (e .if1 .left) (sym (s .is-sound .ensures) ∙ not-false _ (f .if2 .left))) (gives-answered (p .serve-plainly .ensures) (c .answered .ensures .0) (c .answered .ensures .1))
 
 pub ntk-step-spec : {M : Type 1} → statement M
 ntk-step-spec =

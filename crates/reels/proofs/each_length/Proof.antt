@@ -4,10 +4,10 @@ use Rattle.reels.proofs.each_length.Statement.{statement}
 use Rattle.reels.proofs.each_length.Tie as tie
 
 abbrev Inv-loop : tie.InvT-loop
-Inv-loop kind tape printed₀ n₀ printed n = n ≤ 8
+Inv-loop kind tape printed₀ n₀ printed n = n ≤ 14
 
 abbrev μ-loop : tie.MeasureT-loop
-μ-loop kind tape printed₀ n₀ printed n = 8 - n
+μ-loop kind tape printed₀ n₀ printed n = 14 - n
 
 returns : tie.Need-returns Inv-loop μ-loop
 returns c = search needs

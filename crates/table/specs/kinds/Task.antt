@@ -19,8 +19,11 @@ widths =
     ∷ column 1 taskCount
     ∷ column 1 taskCount
     ∷ column 1 taskCount
+    ∷ column 1 taskCount
+    ∷ column 1 taskCount
     ∷ column 2 taskCount
     ∷ column 2 taskCount
+    ∷ column 4 taskCount
     ∷ column 4 taskCount
     ∷ []
 
@@ -35,9 +38,12 @@ made r =
       object = r 5;
       marked = r 6;
       outcome = r 7;
-      quantum = r 8;
-      left = r 9;
-      due = r 10;
+      test = r 8;
+      consume = r 9;
+      quantum = r 10;
+      left = r 11;
+      due = r 12;
+      mask = r 13;
     }
 
 abbrev pub row : Task → List ℕ
@@ -50,9 +56,12 @@ row k =
     ∷ k .object
     ∷ k .marked
     ∷ k .outcome
+    ∷ k .test
+    ∷ k .consume
     ∷ k .quantum
     ∷ k .left
     ∷ k .due
+    ∷ k .mask
     ∷ []
 
 pub shown : (r : ℕ → ℕ) → row (made r) ≡ tabulate (length widths) r

@@ -1,6 +1,6 @@
 -- A mutex's record in the image: what is read of it, and what numbers that are put into its columns change.
 use mathlib.Core.Path.{_≡_, refl, sym, ap, _∙_}
-use mathlib.Core.Logic.{inr}
+use mathlib.Core.Logic.{inl, inr}
 use mathlib.Core.Bool.{true}
 use mathlib.Core.List.{List}
 use Prim.Native.Nat.{ℕ, _<_}
@@ -18,6 +18,7 @@ use Rattle.table.specs.kinds.Mutex.{made}
 use Rattle.table.specs.kinds.Task as task
 use Rattle.table.specs.kinds.Semaphore as semaphore
 use Rattle.table.specs.kinds.Mutex as mutex
+use Rattle.table.specs.kinds.Group as group
 use Rattle.table.specs.Image.{queueFirst, tickColumn, depthColumn, runningColumn, layout, Image, view}
 
 -- Its columns have one count.
@@ -39,6 +40,7 @@ module _ (l m : List ℕ) (i j : ℕ) (vs : List ℕ) (h : Image l) where
         tasks = row-kept mutex.kind layout even task.kind (inr (omega arith)) vs j i l (omega arith) q f x;
         semaphores = row-kept mutex.kind layout even semaphore.kind (inr (omega arith)) vs j i l (omega arith) q f x;
         mutexes = row-put mutex.kind layout even vs j i l (omega arith) q f x;
+        groups = row-kept mutex.kind layout even group.kind (inl (omega arith)) vs j i l (omega arith) q f x;
         queues = row-run mutex.kind layout even queueFirst queueCount (λ n p. inr (omega arith)) vs j i l (omega arith) q f x;
         tick = row-entry mutex.kind layout even vs j i l (omega arith) q f tickColumn 0 (inr (omega arith)) x;
         depth = row-entry mutex.kind layout even vs j i l (omega arith) q f depthColumn 0 (inr (omega arith)) x;

@@ -1,6 +1,6 @@
 use mathlib.Core.Path.{sym, _∙_}
 use borrow.Author.Needs.{needs}
-use Rattle.port.specs.FieldLaws.{read-wrong, read-task, read-object, read-slot, read-single}
+use Rattle.port.specs.FieldLaws.{read-wrong, read-task, read-object, read-group, read-slot, read-single}
 use Rattle.port.proofs.read.ntk_read.Statement.{statement}
 use Rattle.port.proofs.read.ntk_read.Tie as tie
 
@@ -25,14 +25,21 @@ returns-4 c =
     let n = c .before .before in
     let e = n .before .before in
     let a = e .before .before .args in
-    c .slot-field .ensures ∙ sym (read-slot (a .field) (a .number) (a .image .now) (e .if1 .left) (n .if3 .left) (c .before .if4 .taken))
+    c .group-field .ensures ∙ sym (read-group (a .field) (a .number) (a .image .now) (e .if1 .left) (n .if3 .left) (c .before .if4 .taken))
 
 returns-5 : tie.Need-returns-5
 returns-5 c =
-    let n = c .before in
+    let n = c .before .before in
     let e = n .before .before .before in
     let a = e .before .before .args in
-    c .single-field .ensures ∙ sym (read-single (a .field) (a .number) (a .image .now) (e .if1 .left) (n .if4 .left))
+    c .slot-field .ensures ∙ sym (read-slot (a .field) (a .number) (a .image .now) (e .if1 .left) (n .if4 .left) (c .before .if5 .taken))
+
+returns-6 : tie.Need-returns-6
+returns-6 c =
+    let n = c .before in
+    let e = n .before .before .before .before in
+    let a = e .before .before .args in
+    c .single-field .ensures ∙ sym (read-single (a .field) (a .number) (a .image .now) (e .if1 .left) (n .if5 .left))
 
 pub ntk-read-spec : {M : Type 1} → statement M
 ntk-read-spec =
@@ -46,4 +53,6 @@ ntk-read-spec =
     (λ c κs. search needs)
     returns-4
     (λ c κs. search needs)
-    returns-5)
+    returns-5
+    (λ c κs. search needs)
+    returns-6)

@@ -54,13 +54,31 @@ unfolding shownIn
 returns-12 c = rw (c .before .match .keys11, lt-ltb _ 32 (c .before .before .if1 .left)) (c .get-outcome .ensures)
 
 returns-13 : tie.Need-returns-13
-returns-13 c = let a = c .before .before .before .args in sym (shown-lacking (a .field) (a .number) _ (search (needs, end, with) depth 40))
+unfolding shownIn
+returns-13 c = rw (c .before .match .keys12, lt-ltb _ 32 (c .before .before .if1 .left)) (c .get-mask .ensures)
+
+returns-14 : tie.Need-returns-14
+unfolding shownIn
+returns-14 c = rw (c .before .match .keys13, lt-ltb _ 32 (c .before .before .if1 .left)) (c .get-test .ensures)
+
+returns-15 : tie.Need-returns-15
+unfolding shownIn
+returns-15 c = rw (c .before .match .keys14, lt-ltb _ 32 (c .before .before .if1 .left)) (c .get-consume .ensures)
+
+returns-16 : tie.Need-returns-16
+returns-16 c = let a = c .before .before .before .args in sym (shown-lacking (a .field) (a .number) _ (search (needs, end, with) depth 40))
 
 pub task-field-spec : {M : Type 1} → statement M
 task-field-spec =
     tie.close
     (tie.spec
     returns
+    (λ c κs. search needs)
+    (λ c. search needs)
+    (λ c κs. search needs)
+    (λ c. search needs)
+    (λ c κs. search needs)
+    (λ c. search needs)
     (λ c κs. search needs)
     (λ c. search needs)
     (λ c κs. search needs)
@@ -94,4 +112,7 @@ task-field-spec =
     returns-10
     returns-11
     returns-12
-    returns-13)
+    returns-13
+    returns-14
+    returns-15
+    returns-16)

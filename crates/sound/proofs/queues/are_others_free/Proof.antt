@@ -5,37 +5,37 @@ use lib.Dec.{eqb}
 use borrow.Author.Tests.{ne-eqb}
 use Rattle.rules.specs.Table.{queueCount}
 use Rattle.table.specs.Image.{view}
-use Rattle.sound.specs.Packed.{frees, frees-none, frees-three, frees-grow, slotCount}
+use Rattle.sound.specs.Packed.{frees, frees-able, frees-five, frees-grow, slotCount}
 use borrow.Author.Needs.{needs}
 use Rattle.sound.proofs.queues.are_others_free.Statement.{statement}
 use Rattle.sound.proofs.queues.are_others_free.Tie as tie
 
 abbrev Inv-loop : tie.InvT-loop
-Inv-loop s n m₀ i₀ m i = (i ≤ 11) × (m ≤ n + 255 * i) × (m ≡ n + frees (3 * i) (view s))
+Inv-loop s n m₀ i₀ m i = (i ≤ 8) × (m ≤ n + 255 * (i + 1)) × (m ≡ n + frees (1 + 5 * i) (view s))
 
 abbrev μ-loop : tie.MeasureT-loop
-μ-loop s n m₀ i₀ m i = 11 - i
+μ-loop s n m₀ i₀ m i = 8 - i
 
 loop-holds : tie.Need-loop-holds Inv-loop μ-loop
-loop-holds c = (omega arith, omega arith, omega (arith, frees-none (view (c .before .args .s .now))))
+loop-holds c = (omega arith, omega arith, omega (arith, c .free-in-able .ensures, frees-able (view (c .before .before .args .s .now))))
 
 returns : tie.Need-returns Inv-loop μ-loop
 returns c =
     let l = c .before .before .before .loop in
-    let a = c .before .before .before .before .before .args in
+    let a = c .before .before .before .before .before .before .args in
     let t = view (a .s .now) in
-    let r : 3 * l .i + 3 + (queueCount - (3 * l .i + 3)) ≡ queueCount = omega arith in
-    sym (ne-eqb (a .n + frees queueCount t) slotCount (λ e. omega (arith, e, c .if1 .taken, l .inv .2, c .before .free-in-three .ensures, frees-three (3 * l .i) t, rw r at (frees-grow (3 * l .i + 3) (queueCount - (3 * l .i + 3)) t))))
+    let r : 1 + 5 * l .i + 5 + (queueCount - (1 + 5 * l .i + 5)) ≡ queueCount = omega arith in
+    sym (ne-eqb (a .n + frees queueCount t) slotCount (λ e. omega (arith, e, c .if1 .taken, l .inv .2, c .before .free-in-five .ensures, frees-five (1 + 5 * l .i) t, rw r at (frees-grow (1 + 5 * l .i + 5) (queueCount - (1 + 5 * l .i + 5)) t))))
 
 loop-again : tie.Need-loop-again Inv-loop μ-loop
 loop-again c =
     let l = c .before .before .before .loop in
-    let t = view (c .before .before .before .before .before .args .s .now) in
-    let e : 3 * (l .i + 1) ≡ 3 * l .i + 3 = omega arith in
-    (omega arith, omega arith, rw e (omega (arith, l .inv .2, c .before .free-in-three .ensures, frees-three (3 * l .i) t)))
+    let t = view (c .before .before .before .before .before .before .args .s .now) in
+    let e : 1 + 5 * (l .i + 1) ≡ 1 + 5 * l .i + 5 = omega arith in
+    (omega arith, omega arith, rw e (omega (arith, l .inv .2, c .before .free-in-five .ensures, frees-five (1 + 5 * l .i) t)))
 
 returns-2 : tie.Need-returns-2 Inv-loop μ-loop
-returns-2 c = let e : 3 * c .before .loop .i ≡ queueCount = omega arith in ap (λ (x : ℕ). eqb x slotCount) (rw e at (c .before .loop .inv .2))
+returns-2 c = let e : 1 + 5 * c .before .loop .i ≡ queueCount = omega arith in ap (λ (x : ℕ). eqb x slotCount) (rw e at (c .before .loop .inv .2))
 
 pub are-others-free-spec : {M : Type 1} → statement M
 are-others-free-spec =
@@ -43,7 +43,11 @@ are-others-free-spec =
     (tie.spec
     Inv-loop
     μ-loop
+    (λ c κs. search needs)
+    (λ c. search needs)
+    (λ c. search needs)
     loop-holds
+    (λ c. search needs)
     (λ c. search needs)
     (λ c κs. omega arith)
     (λ c. search needs)

@@ -11,6 +11,9 @@ add-pick c = let b = c .before .before .before in omega (arith, c .get-object .e
 add-pick-2 : tie.Need-add-pick-2
 add-pick-2 c = let b = c .before .before .before in omega (arith, c .get-object .ensures, object-most (b .pre .2 (b .args .i) (omega arith)))
 
+add-pick-3 : tie.Need-add-pick-3
+add-pick-3 c = let b = c .before .before .before in omega (arith, c .get-object .ensures, object-most (b .pre .2 (b .args .i) (omega arith)))
+
 returns : tie.Need-returns
 unfolding placeOf ofState
 returns c = cc
@@ -23,6 +26,8 @@ spot-of-spec =
     (λ c κs. search needs)
     add-pick
     add-pick-2
+    add-pick-3
+    (λ c κs. search needs)
     (λ c κs. search needs)
     (λ c κs. search needs)
     (λ c κs. search needs)

@@ -23,9 +23,9 @@ loop-holds c = (omega arith, each-none _)
 
 loop-again : tie.Need-loop-again Inv-loop μ-loop
 loop-again c =
-    let l = c .before .before .before .loop in
-    let s = c .before .before .before .before .before .args .s .now in
-    let e : c .before .has-right-levels .result && c .has-right-state .result ≡ hasSoundFields (taskOf (view s) (l .i)) = cc in
+    let l = c .before .before .before .before .loop in
+    let s = c .before .before .before .before .before .before .args .s .now in
+    let e : c .before .before .has-right-levels .result && (c .before .has-right-state .result && c .has-right-asks .result) ≡ hasSoundFields (taskOf (view s) (l .i)) = cc in
     (omega arith, each-and (λ j. hasSoundFields (taskOf (view s) j)) (l .i) e (l .inv .1))
 
 returns : tie.Need-returns Inv-loop μ-loop
@@ -38,6 +38,7 @@ are-fields-right-spec =
     Inv-loop
     μ-loop
     loop-holds
+    (λ c κs. search needs)
     (λ c κs. search needs)
     (λ c κs. search needs)
     (λ c. search needs)

@@ -1,7 +1,9 @@
+use mathlib.Core.Bool.{and-true}
 use Prim.Native.Nat.{_-_}
 use native.Mathlib.Omega.{arith}
-use Rattle.rules.specs.Table.{semaphoreOf, semaphoreQueue}
-use Rattle.laws.specs.queues.Rows.{among-semaphores, among-mutexes}
+use lib.Dec.{eqb}
+use Rattle.rules.specs.Table.{semaphoreOf, semaphoreQueue, groupOf, groupQueue}
+use Rattle.laws.specs.queues.Rows.{among-semaphores, among-mutexes, among-groups}
 use Rattle.table.specs.Image.{view}
 use Rattle.sound.specs.Waits.{none-above, awaited-none, awaited-one}
 use borrow.Author.Needs.{needs}
@@ -19,8 +21,13 @@ returns-2 c =
 
 returns-3 : tie.Need-returns-3
 returns-3 c =
-    let a = c .before .before .before .before .before .args in
+    let a = c .before .before .before .before .before .before .args in
     cc (awaited-one (view (a .s .now)) (a .q) among-mutexes (omega arith) (omega arith))
+
+returns-4 : tie.Need-returns-4
+returns-4 c =
+    let a = c .before .before .before .before .before .args in
+    cc (awaited-one (view (a .s .now)) (a .q) among-groups (omega arith) (omega arith), and-true (eqb (groupOf (view (a .s .now)) (a .q - groupQueue 0) .used) 1))
 
 pub is-awaited-spec : {M : Type 1} → statement M
 is-awaited-spec =
@@ -31,7 +38,8 @@ is-awaited-spec =
     (λ c κs. search needs)
     (λ c κs. search needs)
     returns-2
-    (λ c. search needs)
     (λ c κs. search needs)
     (λ c κs. search needs)
-    returns-3)
+    returns-3
+    (λ c κs. search needs)
+    returns-4)

@@ -32,9 +32,18 @@ returns-3 c =
 returns-4 : tie.Need-returns-4
 unfolding placeOf ofState
 returns-4 c =
-    let a = c .before .before .before .before .before .before .before .args in
+    let b = c .before .before in
+    let a = b .before .before .before .before .before .before .args in
     let h : isAble (taskOf (view (a .s .now)) (a .i)) ≡ false = cc in
-    rw (h, ← c .before .before .before .get-state .ensures, ne-eqb _ _ (c .before .if2 .left), ne-eqb _ _ (c .if3 .left))
+    rw (h, ← b .before .before .get-state .ensures, ← b .before .get-object .ensures, ne-eqb _ _ (b .if2 .left), ne-eqb _ _ (c .before .if3 .left), eq-eqb _ _ (c .if4 .taken))
+
+returns-5 : tie.Need-returns-5
+unfolding placeOf ofState
+returns-5 c =
+    let b = c .before .before in
+    let a = b .before .before .before .before .before .before .args in
+    let h : isAble (taskOf (view (a .s .now)) (a .i)) ≡ false = cc in
+    rw (h, ← b .before .before .get-state .ensures, ne-eqb _ _ (b .if2 .left), ne-eqb _ _ (c .before .if3 .left), ne-eqb _ _ (c .if4 .left))
 
 pub place-of-spec : {M : Type 1} → statement M
 place-of-spec =
@@ -50,4 +59,7 @@ place-of-spec =
     (λ c. search needs)
     (λ c. search needs)
     returns-3
-    returns-4)
+    (λ c. search needs)
+    (λ c. search needs)
+    returns-4
+    returns-5)

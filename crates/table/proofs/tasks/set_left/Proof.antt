@@ -7,7 +7,7 @@ use Rattle.table.proofs.tasks.set_left.Tie as tie
 
 returns : tie.Need-returns
 unfolding made
-returns c = put _ _ _ 9 (_ ∷ []) (search needs) (search needs) (search needs) (cc)
+returns c = put _ _ _ 11 (_ ∷ []) (search needs) (search needs) (search needs) (cc)
 
 pub set-left-spec : {M : Type 1} → statement M
 set-left-spec = tie.close (tie.spec (λ c κs. search needs) (λ c. search needs) returns)

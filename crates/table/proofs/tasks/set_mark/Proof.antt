@@ -10,7 +10,7 @@ unfolding made
 returns c =
     let b = c .before .before in
     let a = b .before .before .before .before in
-    put-then _ _ _ _ 10 (_ ∷ []) _ (search needs) (search needs) (search needs) (search needs)
+    put-then _ _ _ _ 12 (_ ∷ []) _ (search needs) (search needs) (search needs) (search needs)
     (put _ _ _ 6 (_ ∷ []) (search needs) (search needs) (search needs) (a .put1 .ensures .0))
     (b .put4 .ensures .0)
 

@@ -1,0 +1,138 @@
+//! The standing rules.
+use super::{Kernel, Place, State, Task, Wanted, LAST_PRIORITY, MOST, TASKS};
+
+/// The names of the standing rules, in the paper's order; the first is of the image alone.
+pub const RULES: [&str; 19] = [
+    "the image shows a table",
+    "fields in range",
+    "free: zero fields",
+    "free: no queue",
+    "able queue: each able task once, nothing else",
+    "object queue: each waiter once, nothing else",
+    "waited-for objects in use",
+    "queues ordered",
+    "working priorities afresh",
+    "free mutex: nesting 0",
+    "free mutex: no waiter",
+    "held mutex: nesting above 0",
+    "holder in use",
+    "holder does not wait for what it holds",
+    "semaphore with a waiter: count 0",
+    "marks fit the states",
+    "no mark equals the tick counter",
+    "left at most the quantum",
+    "the running task",
+];
+
+impl Kernel {
+    pub fn sound(&self) -> bool {
+        self.broken().is_empty()
+    }
+
+    /// The standing rules that do not hold, as places in RULES.
+    pub fn broken(&self) -> Vec<usize> {
+        let homes: Vec<Option<Place>> = (0..TASKS).map(|t| self.home(t)).collect();
+        let holds = [
+            true,
+            self.in_range(),
+            self.free_are_zero(),
+            self.free_have_no_queue(),
+            self.queue_holds(Place::Able, &homes),
+            Kernel::places().skip(1).all(|place| self.queue_holds(place, &homes)),
+            self.waited_for_in_use(),
+            Kernel::places().all(|place| self.ordered(place)),
+            self.working_afresh(),
+            self.mutexes.iter().all(|m| m.holder.is_some() || m.nesting == 0),
+            self.mutexes.iter().all(|m| m.holder.is_some() || m.queue.is_empty()),
+            self.mutexes.iter().all(|m| m.holder.is_none() || m.nesting > 0),
+            self.mutexes.iter().all(|m| m.holder.map_or(true, |t| self.tasks[t].used)),
+            self.no_own_wait(),
+            self.semaphores.iter().all(|s| s.queue.is_empty() || s.count == 0),
+            self.marks_fit(),
+            self.tasks.iter().all(|task| task.mark != Some(self.tick)),
+            self.tasks.iter().all(|task| task.left <= task.quantum),
+            self.runs_rightly(),
+        ];
+        (0..RULES.len()).filter(|&rule| !holds[rule]).collect()
+    }
+
+    /// "All fields are in range"
+    fn in_range(&self) -> bool {
+        let priority = |p: u8| u32::from(p) <= LAST_PRIORITY;
+        let tasks = self
+            .tasks
+            .iter()
+            .all(|t| priority(t.base) && priority(t.working) && t.suspends <= MOST && t.outcome <= 3);
+        let no_mask = |t: &Task| matches!(t.state, State::Flags(_, Wanted { mask: 0, .. }));
+        tasks && !self.tasks.iter().any(no_mask) && self.mutexes.iter().all(|m| m.nesting <= MOST) && self.depth <= MOST
+    }
+
+    /// "a free number has zero fields"
+    fn free_are_zero(&self) -> bool {
+        self.tasks.iter().all(|t| t.used || *t == Task::default())
+            && self.semaphores.iter().all(|s| s.used || s.count == 0)
+            && self.mutexes.iter().all(|m| m.used || (m.holder.is_none() && m.nesting == 0))
+            && self.groups.iter().all(|g| g.used || g.flags == 0)
+    }
+
+    /// "a free number has [..] no queue and no place in a queue"
+    fn free_have_no_queue(&self) -> bool {
+        Kernel::places().all(|place| self.queue(place).iter().all(|&t| self.tasks[t].used))
+            && self.semaphores.iter().all(|s| s.used || s.queue.is_empty())
+            && self.mutexes.iter().all(|m| m.used || m.queue.is_empty())
+            && self.groups.iter().all(|g| g.used || g.queue.is_empty())
+    }
+
+    /// "The able queue holds each able task once and nothing else; each object's queue holds each of its
+    /// waiters once and nothing else."
+    fn queue_holds(&self, place: Place, homes: &[Option<Place>]) -> bool {
+        let mut found = self.queue(place).clone();
+        found.sort();
+        found.into_iter().eq((0..TASKS).filter(|&t| homes[t] == Some(place)))
+    }
+
+    /// "Waited-for objects are in use."
+    fn waited_for_in_use(&self) -> bool {
+        self.tasks.iter().all(|task| match task.state {
+            State::Semaphore(s) => self.semaphores[s].used,
+            State::Mutex(m) => self.mutexes[m].used,
+            State::Flags(g, _) => self.groups[g].used,
+            _ => true,
+        })
+    }
+
+    /// "Queues are ordered."
+    fn ordered(&self, place: Place) -> bool {
+        self.queue(place).windows(2).all(|two| self.tasks[two[0]].working <= self.tasks[two[1]].working)
+    }
+
+    /// "Working priorities equal those worked out afresh"
+    fn working_afresh(&self) -> bool {
+        let afresh = self.all_afresh();
+        (0..TASKS).all(|t| !self.tasks[t].used || self.tasks[t].working == afresh[t])
+    }
+
+    /// "a holder [..] does not wait for the mutex it holds"
+    fn no_own_wait(&self) -> bool {
+        (0..TASKS).all(|t| self.waits_for_holder(t) != Some(t))
+    }
+
+    /// "A plain task has no due mark, a delayed one has one, a waiter may"
+    fn marks_fit(&self) -> bool {
+        self.tasks.iter().all(|task| match task.state {
+            State::Plain => task.mark.is_none(),
+            State::Delayed => task.mark.is_some(),
+            _ => true,
+        })
+    }
+
+    /// "At lock depth 0 the running task is the first of the able queue, or none if that is empty; at
+    /// greater depth it is an able task or none."
+    fn runs_rightly(&self) -> bool {
+        if self.depth == 0 {
+            self.running == self.able.first().copied()
+        } else {
+            self.running.map_or(true, |t| self.is_able(t))
+        }
+    }
+}

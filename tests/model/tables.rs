@@ -1,0 +1,155 @@
+//! Random sound tables, built directly: also such as no short sequence of calls reaches.
+use crate::kernel::{Group, Kernel, Mutex, Semaphore, State, Task, Test, Wanted, GROUPS, MOST, OBJECTS, TASKS};
+use crate::random::Random;
+
+/// A sound table with tasks in every state, chains and rings.
+pub fn table(random: &mut Random) -> Kernel {
+    let mut kernel = Kernel::fresh();
+    kernel.tick = random.tick();
+    let crowd = random.pick(&[10, 40, 80, 100]);
+    let levels: Vec<u8> = (0..random.between(1, 5)).map(|_| random.pick(&[0, 1, 2, 5, 20, 40, 61, 62])).collect();
+    for t in 0..TASKS {
+        if random.chance(crowd) {
+            kernel.tasks[t] = some_task(random, &levels);
+        }
+    }
+    let used: Vec<usize> = (0..TASKS).filter(|&t| kernel.tasks[t].used).collect();
+    for s in 0..OBJECTS {
+        if random.chance(crowd) {
+            let count = random.pick(&[0, 0, 1, 2, u32::MAX - 1, u32::MAX]);
+            kernel.semaphores[s] = Semaphore { used: true, count, queue: vec![] };
+        }
+    }
+    for m in 0..OBJECTS {
+        if random.chance(crowd.max(30)) {
+            let held = !used.is_empty() && random.chance(75);
+            let holder = if held { Some(random.pick(&used)) } else { None };
+            let nesting = if held { random.pick(&[1, 1, 1, 2, 3, MOST - 1, MOST]) } else { 0 };
+            kernel.mutexes[m] = Mutex { used: true, holder, nesting, queue: vec![] };
+        }
+    }
+    for g in 0..GROUPS {
+        if random.chance(crowd) {
+            let flags = if random.chance(30) { 0 } else { random.mask() };
+            kernel.groups[g] = Group { used: true, flags, queue: vec![] };
+        }
+    }
+    for &t in &used {
+        some_state(random, &mut kernel, t);
+    }
+    if random.chance(50) && used.len() > 2 {
+        long_chain(random, &mut kernel, &used);
+    }
+    kernel.depth = if random.chance(70) { 0 } else { random.pick(&[1, 1, 2, MOST - 1, MOST]) };
+    settle(random, &mut kernel);
+    kernel
+}
+
+fn some_task(random: &mut Random, levels: &[u8]) -> Task {
+    let quantum = random.pick(&[0, 0, 1, 2, 3, 100, 65535]);
+    let left = random.pick(&[0, 1, quantum, quantum]).min(quantum);
+    let suspends = random.pick(&[0, 0, 0, 0, 0, 0, 1, 2, MOST - 1, MOST]);
+    let base = random.pick(levels);
+    let outcome = random.below(4) as u8;
+    Task { used: true, base, working: base, suspends, quantum, left, state: State::Plain, mark: None, outcome }
+}
+
+fn some_state(random: &mut Random, kernel: &mut Kernel, t: usize) {
+    let state = match random.below(13) {
+        0 => Some(State::Delayed),
+        1 | 2 => random.pick_from((0..OBJECTS).filter(|&s| kernel.semaphores[s].used)).map(State::Semaphore),
+        3..=6 => {
+            let open = |m: usize| kernel.mutexes[m].holder.is_some() && kernel.mutexes[m].holder != Some(t);
+            random.pick_from((0..OBJECTS).filter(|&m| open(m))).map(State::Mutex)
+        }
+        7..=9 => {
+            let wanted = some_wanted(random);
+            random.pick_from((0..GROUPS).filter(|&g| kernel.groups[g].used)).map(|g| State::Flags(g, wanted))
+        }
+        _ => None,
+    };
+    wait_in(random, kernel, t, state.unwrap_or(State::Plain));
+}
+
+/// What a wait for flags may name.
+pub fn some_wanted(random: &mut Random) -> Wanted {
+    let test = random.pick(&[Test::AllSet, Test::AnySet, Test::AllClear, Test::AnyClear]);
+    Wanted { mask: random.mask(), test, consume: random.chance(60) }
+}
+
+fn wait_in(random: &mut Random, kernel: &mut Kernel, t: usize, state: State) {
+    let marked = match state {
+        State::Plain => false,
+        State::Delayed => true,
+        _ => random.chance(50),
+    };
+    kernel.tasks[t].state = state;
+    kernel.tasks[t].mark = if marked { Some(kernel.tick.wrapping_add(random.soon())) } else { None };
+    if let State::Semaphore(s) = state {
+        kernel.semaphores[s].count = 0;
+    }
+}
+
+/// Makes some tasks a chain or a ring, by a mutex for each.
+fn long_chain(random: &mut Random, kernel: &mut Kernel, used: &[usize]) {
+    let mut tasks = used.to_vec();
+    random.shuffle(&mut tasks);
+    let length = random.between(2, OBJECTS.min(tasks.len()));
+    let mut mutexes: Vec<usize> = (0..OBJECTS).collect();
+    random.shuffle(&mut mutexes);
+    let holder = |i: usize| tasks[i % length];
+    for i in 0..length {
+        kernel.mutexes[mutexes[i]] = Mutex { used: true, holder: Some(holder(i)), nesting: 1, queue: vec![] };
+    }
+    let ring = random.chance(40);
+    for i in 0..length {
+        let state = if i + 1 < length || ring { State::Mutex(mutexes[(i + 1) % length]) } else { State::Plain };
+        wait_in(random, kernel, holder(i), state);
+    }
+    if let Some(&more) = tasks.get(length) {
+        wait_in(random, kernel, more, State::Mutex(mutexes[0]));
+    }
+    for &t in used {
+        if kernel.waits_for_holder(t) == Some(t) {
+            wait_in(random, kernel, t, State::Plain); // its mutex has come into its own hands
+        }
+    }
+}
+
+/// Works out what follows from the other fields: working priorities, queues, the running task.
+pub fn settle(random: &mut Random, kernel: &mut Kernel) {
+    let afresh = kernel.all_afresh();
+    for t in (0..TASKS).filter(|&t| kernel.tasks[t].used).collect::<Vec<_>>() {
+        kernel.tasks[t].working = afresh[t];
+    }
+    arrange(random, kernel);
+}
+
+/// Works out queues and the running task from the states and the working priorities as they are.
+pub fn arrange(random: &mut Random, kernel: &mut Kernel) {
+    for place in Kernel::places() {
+        kernel.queue_mut(place).clear();
+    }
+    let mut order: Vec<usize> = (0..TASKS).collect();
+    random.shuffle(&mut order);
+    order.sort_by_key(|&t| kernel.tasks[t].working);
+    for t in order {
+        if let Some(home) = kernel.home(t) {
+            kernel.queue_mut(home).push(t);
+        }
+    }
+    kernel.running = kernel.able.first().copied();
+    if kernel.depth > 0 {
+        let able = kernel.able.clone();
+        kernel.running = if able.is_empty() || random.chance(15) { None } else { Some(random.pick(&able)) };
+    }
+}
+
+/// Where a sequence of calls starts.
+pub fn start(random: &mut Random) -> Kernel {
+    match random.below(10) {
+        0..=5 => Kernel::fresh(),
+        6 | 7 => Kernel { tick: random.tick(), ..Kernel::fresh() },
+        _ => table(random),
+    }
+}
