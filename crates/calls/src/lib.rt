@@ -18,7 +18,7 @@ fn is_for_interrupts(c: rules::Call) -> bool
 }
 
 // A call made by a task.
-fn serve_task(s: &mut [u8], c: rules::Call) -> u8
+pub fn serve_task(s: &mut [u8], c: rules::Call) -> u8
     requires { ⌜ Image (now s) ⌝ }
     ensures { λ r. ⌜ Served (answerTo c (view (now (s .entry)))) (effect c (view (now (s .entry)))) r (now (s .entry)) (now (s .exit)) ⌝ }
 {

@@ -3,6 +3,7 @@ ghost use mathlib.Core.Path.{_≡_};
 ghost use Rattle.rules.specs.Kinds.{widths, isInterrupt, plainKind, reading};
 ghost use Rattle.rules.specs.Tape.{bodyLength};
 ghost use Rattle.kinds.specs.Row.{packed, rowOf};
+ghost use Rattle.kinds.specs.Interrupts.{letIn};
 
 // Kind plus 80h: made by an interrupt.
 pub fn is_interrupt(kind: u8) -> bool
@@ -20,18 +21,31 @@ pub fn plain_kind(kind: u8) -> u8
     kind
 }
 
+// The kind of the call that is let in: an interrupt's without its bit where it may make it. Else the byte stays, and no kind of the list
+// has the bit: so one match on the kind finds the call and who may make it.
+pub fn let_in(kind: u8) -> u8
+    ensures { λ r. ⌜ r ≡ letIn kind ⌝ }
+{
+    match kind {
+        0x8B => 0x0B,
+        0x93 => 0x13,
+        0xB3 => 0x33,
+        _ => kind,
+    }
+}
+
 // A call's numbers in the order of the tape. No kind has more than six, and those that a kind does not use are not looked at.
 pub type Numbers = [u32; 6];
 
 // A kind: its call, and how many bytes of the tape each of its numbers takes, a hexadecimal digit for each, the first number's the lowest;
 // or that the list lacks it. With the call in front the compiler keeps its numbers in registers.
-enum Row {
+pub enum Row {
     Has(rules::Call, u32),
     Lacks,
 }
 
 // The list of kinds.
-fn row_of(k: u8, numbers: Numbers) -> Row
+pub fn row_of(k: u8, numbers: Numbers) -> Row
     ensures { λ r. ⌜ r ≡ rowOf k numbers ⌝ }
 {
     let a = numbers[0];

@@ -1,14 +1,22 @@
 -- What each way through the port gives.
 use mathlib.Core.Path.{_≡_, refl, sym, ap, subst, _∙_}
-use mathlib.Core.Bool.{Bool, true, false, cond}
-use mathlib.Core.List.{List, [], _∷_}
+use mathlib.Core.Bool.{Bool, true, false, cond, not, _&&_, true≢false}
+use mathlib.Core.List.{List, _++_, append-nil}
+use mathlib.Core.Logic.{_⊎_, inl, inr}
 use Prim.Native.Nat.{ℕ}
+use lib.ListN.{length, take, drop}
+use lib.Seq.{take-length, drop-length}
 use Rattle.rules.specs.Sizes.{beyondRange, byInterrupt, notSound}
 use Rattle.rules.specs.Table.{Table}
-use Rattle.rules.specs.Step.{Outcome, answer, effect, serve, unsound, changes}
+use Rattle.rules.specs.Step.{Outcome, forInterrupts, answerTo, answer, effect, serve, unsound, changes}
+use Rattle.rules.specs.Kinds.{isInterrupt, plainKind, reading}
 use Rattle.rules.specs.declared.Call.{Call}
 use Rattle.rules.specs.declared.Reading.{Reading}
-use Rattle.rules.specs.declared.Reading.the-variants.{Unknown}
+use Rattle.rules.specs.declared.Reading.the-variants.{Says, Unknown}
+use Rattle.kinds.specs.declared.Row.{Row}
+use Rattle.kinds.specs.declared.Row.the-variants.{Has, Lacks}
+use Rattle.kinds.specs.Row.{rowOf}
+use Rattle.kinds.specs.Interrupts.{mayMake, barred, letIn, Agrees, reading-agrees, let-in-has, let-in-lacks}
 use Rattle.table.specs.Image.{Image, view, imageOf}
 use Rattle.rules.specs.Tape.{Bytes}
 use Rattle.table.specs.Written.{view-image}
@@ -27,19 +35,51 @@ gives-answered g e f = record { answer = e ∙ g .answer; runs = f ∙ g .runs; 
 pub plain-by : {r q : Reading} (t : Table) → r ≡ q → plainly r t ≡ plainly q t
 plain-by t e = ap (λ (z : Reading). plainly z t) e
 
+-- The row that was found, and the answer.
+pub row-by : (kind : ℕ) (numbers : List ℕ) {k : ℕ} {row x : Row} → k ≡ letIn kind → row ≡ rowOf k numbers → row ≡ x → rowOf (letIn kind) numbers ≡ x
+row-by kind numbers e f g = ap (λ (z : ℕ). rowOf z numbers) (sym e) ∙ sym f ∙ g
+
+pub answer-by : {b i : Bool} {x : ℕ} → b ≡ i → x ≡ cond b byInterrupt beyondRange → x ≡ cond i byInterrupt beyondRange
+answer-by e f = f ∙ ap (λ (z : Bool). cond z byInterrupt beyondRange) e
+
 -- A damaged table or a wrong length.
 pub gives-unsound : (l : List ℕ) {x v : ℕ} → x ≡ notSound → v ≡ 0 → Gives (unsound (view l)) l x v l
 unfolding bytesAfter
 gives-unsound l e f = record { answer = e; runs = f; bytes = refl }
 
--- A kind that the list lacks.
-pub gives-unknown : (interrupt : Bool) (l : List ℕ) {x v : ℕ} → x ≡ cond interrupt byInterrupt beyondRange → v ≡ view l .running → Gives (plainly (Unknown interrupt) (view l)) l x v l
-unfolding plainly bytesAfter
-gives-unknown true l e f = record { answer = e; runs = f; bytes = refl }
-gives-unknown false l e f = record { answer = e; runs = f; bytes = refl }
+-- A refusal with 5 or 1.
+refusal : Bool → Table → Outcome
+refusal interrupt t = record { answer = cond interrupt byInterrupt beyondRange; table = t; runs = t .running }
 
--- A call of the list, from the bytes l to the bytes m.
-module _ (c : Call) (interrupt : Bool) (l m : List ℕ) {n : ℕ} (image : Image m) (bytes : Bytes m) (s : Served (answer c interrupt (view l)) (effect c (view l)) n l m) where
+gives-refusal : (interrupt : Bool) (l : List ℕ) {x v : ℕ} → x ≡ cond interrupt byInterrupt beyondRange → v ≡ view l .running → Gives (refusal interrupt (view l)) l x v l
+unfolding refusal bytesAfter
+gives-refusal true l e f = record { answer = e; runs = f; bytes = refl }
+gives-refusal false l e f = record { answer = e; runs = f; bytes = refl }
+
+-- A call that an interrupt makes and may not make, also where the list lacks the kind.
+said-barred : (interrupt may : Bool) (t : Table) (r : Reading) → Agrees interrupt may r → (interrupt && not may) ≡ true → plainly r t ≡ refusal interrupt t
+unfolding refusal plainly serve answer
+said-barred true may t (Says c i) (e, f) h = let g : (i && not (forInterrupts c)) ≡ true = (λ x. e x && not (sym f x)) ∙ h in rw g
+said-barred true may t (Unknown i) (e, f) h = ap (λ (b : Bool). plainly (Unknown b) t) e
+said-barred false may t r a h = absurd (true≢false (sym h))
+
+-- A call that is not let in.
+module _ (kind : ℕ) (numbers : List ℕ) (l : List ℕ) where
+  refused : (barred kind ≡ true) ⊎ (reading kind numbers ≡ Unknown (isInterrupt kind)) → plainly (reading kind numbers) (view l) ≡ refusal (isInterrupt kind) (view l)
+  unfolding refusal plainly barred
+  refused (inl e) = said-barred (isInterrupt kind) (mayMake (plainKind kind)) (view l) (reading kind numbers) (reading-agrees kind numbers) e
+  refused (inr e) = plain-by (view l) e
+
+  pub gives-lacking : {x v : ℕ} → rowOf (letIn kind) numbers ≡ Lacks → x ≡ cond (isInterrupt kind) byInterrupt beyondRange → v ≡ view l .running
+      → Gives (plainly (reading kind numbers) (view l)) l x v l
+  gives-lacking e f g = gives-by (refused (let-in-lacks kind numbers e)) (gives-refusal (isInterrupt kind) l f g)
+
+-- A call that may be made, from the bytes l to the bytes m.
+module _ (c : Call) (interrupt : Bool) (l m : List ℕ) {n : ℕ} (image : Image m) (bytes : Bytes m) (may : (interrupt && not (forInterrupts c)) ≡ false) (s : Served (answerTo c (view l)) (effect c (view l)) n l m) where
+  free : answerTo c (view l) ≡ answer c interrupt (view l)
+  unfolding answer
+  free = rw may
+
   after : (x : Bool) → changes n ≡ x → view m ≡ cond x (effect c (view l)) (view l)
   after true e = s .done e
   after false e = ap view (s .kept e)
@@ -48,12 +88,36 @@ module _ (c : Call) (interrupt : Bool) (l m : List ℕ) {n : ℕ} (image : Image
   written true e = sym (view-image m image bytes) ∙ ap imageOf (s .done e)
   written false e = s .kept e
 
-  pub gives-served : {x v : ℕ} → x ≡ n → v ≡ view m .running → Gives (serve c interrupt (view l)) l x v m
+  gives-made : {x v : ℕ} → x ≡ n → v ≡ view m .running → Gives (serve c interrupt (view l)) l x v m
   unfolding serve bytesAfter
-  gives-served e f =
-      let same : changes n ≡ changes (answer c interrupt (view l)) = ap (λ (z : ℕ). changes z) (s .says) in
+  gives-made e f =
+      let same : changes n ≡ changes (answer c interrupt (view l)) = ap (λ (z : ℕ). changes z) (s .says ∙ free) in
       record {
-        answer = e ∙ s .says;
+        answer = e ∙ s .says ∙ free;
         runs = f ∙ ap (λ (t : Table). t .running) (after _ same);
         bytes = written _ same;
       }
+
+-- A call that is let in.
+pub gives-let-in : (kind : ℕ) (numbers l m : List ℕ) {c : Call} {w n x v : ℕ} → Image m → Bytes m → rowOf (letIn kind) numbers ≡ Has c w → Served (answerTo c (view l)) (effect c (view l)) n l m
+    → x ≡ n → v ≡ view m .running → Gives (plainly (reading kind numbers) (view l)) l x v m
+unfolding plainly
+gives-let-in kind numbers l m {c} image bytes e s f g =
+    let (is, may) = let-in-has kind numbers e in
+    gives-by (plain-by (view l) is) (gives-made c (isInterrupt kind) l m image bytes may s f g)
+
+-- ---- an image lent by its length
+
+module _ (l : List ℕ) (n : ℕ) (h : length l ≡ n) where
+  -- The part that is lent is the whole,
+  lent-whole : take n l ≡ l
+  lent-whole = ap (λ (k : ℕ). take k l) (sym h) ∙ take-length l
+
+  -- and what comes back is what it was left as.
+  back-whole : (m : List ℕ) → m ++ drop n l ≡ m
+  back-whole m = ap (λ (k : ℕ). m ++ drop k l) (sym h) ∙ ap (λ (z : List ℕ). m ++ z) (drop-length l) ∙ append-nil m
+
+  pub gives-lent : (r : Reading) (m : List ℕ) {x : ℕ} → Gives (plainly r (view (take n l))) (take n l) x (view m .running) m
+      → Gives (plainly r (view l)) l x (view (m ++ drop n l) .running) (m ++ drop n l)
+  gives-lent r m {x} g = subst (λ (z : List ℕ). Gives (plainly r (view l)) l x (view z .running) z) (sym (back-whole m))
+      (subst (λ (z : List ℕ). Gives (plainly r (view z)) z x (view m .running) m) lent-whole g)

@@ -2,7 +2,7 @@
 use mathlib.Core.Path.{_≡_, sym, _∙_}
 use mathlib.Core.Bool.{cond}
 use mathlib.Core.List.{List, [], _∷_}
-use Prim.Native.Nat.{ℕ}
+use Prim.Native.Nat.{ℕ, _/_, _%_}
 use lib.Dec.{eqb}
 use lib.ListN.{length}
 use Rattle.rules.specs.Sizes.{beyondRange, byInterrupt}
@@ -45,6 +45,13 @@ pub record Gives (o : Outcome) (l : List ℕ) (x v : ℕ) (m : List ℕ) : Type 
   pub answer : x ≡ o .answer
   pub runs : v ≡ o .runs
   pub bytes : m ≡ bytesAfter o l
+
+-- An outcome in one number: the answer in its lower 32 bits, the task to run above them.
+abbrev pub answerIn : ℕ → ℕ
+answerIn both = both % 4294967296
+
+abbrev pub runsIn : ℕ → ℕ
+runsIn both = both / 4294967296
 
 abbrev pub Stepped : (kind a b c d e f : ℕ) (l : List ℕ) (answer runs : ℕ) (m : List ℕ) → Type 0
 Stepped kind a b c d e f l = Gives (outcomeOf kind a b c d e f l) l

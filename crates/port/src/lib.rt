@@ -3,7 +3,8 @@ ghost use mathlib.Core.Path.{_≡_};
 ghost use mathlib.Core.Bool.{cond};
 ghost use Rattle.rules.specs.Sizes.{byInterrupt, beyondRange, notSound};
 ghost use Rattle.table.specs.Image.{Image, view};
-ghost use Rattle.port.specs.Step.{said, plainly, Gives, Stepped, ServedPlainly};
+ghost use Rattle.port.specs.Step.{said, plainly, answerIn, runsIn, Gives, Stepped, ServedPlainly};
+use table::layout;
 
 pub mod read;
 
@@ -14,24 +15,31 @@ pub struct NtkOutcome {
     pub runs: u32,
 }
 
-fn outcome(answer: u8, runs: u8) -> NtkOutcome
-    ensures { λ r. ⌜ (r .answer ≡ answer) × (r .runs ≡ runs) ⌝ }
+// An outcome in one number, the task to run in its upper half: a struct would come back through memory.
+fn outcome(answer: u8, runs: u8) -> u64
+    ensures { λ r. ⌜ (answerIn r ≡ answer) × (runsIn r ≡ runs) ⌝ }
+{
+    answer as u64 + runs as u64 * 4294967296
+}
+
+fn split(both: u64) -> NtkOutcome
+    ensures { λ r. ⌜ (r .answer ≡ answerIn both) × (r .runs ≡ runsIn both) ⌝ }
 {
     NtkOutcome {
-        answer: answer as u32,
-        runs: runs as u32,
+        answer: (both % 4294967296) as u32,
+        runs: (both / 4294967296) as u32,
     }
 }
 
 // The table is not sound, or the image's length is wrong: no task is to run.
-fn not_sound() -> NtkOutcome
-    ensures { λ r. ⌜ (r .answer ≡ notSound) × (r .runs ≡ 0) ⌝ }
+fn not_sound() -> u64
+    ensures { λ r. ⌜ (answerIn r ≡ notSound) × (runsIn r ≡ 0) ⌝ }
 {
     outcome(15, 0)
 }
 
-// The answer of a kind that the list lacks.
-fn unknown_kind(interrupt: bool) -> u8
+// The answer of a kind that the list lacks, or that an interrupt may not make.
+fn not_let_in(interrupt: bool) -> u8
     ensures { λ r. ⌜ r ≡ cond interrupt byInterrupt beyondRange ⌝ }
 {
     if !interrupt {
@@ -40,26 +48,35 @@ fn unknown_kind(interrupt: bool) -> u8
     5
 }
 
-// A call on an image whose table is taken to be sound. The numbers are not one array, and the task to run is left in the image: either would
-// go through memory.
-fn serve_plainly(kind: u8, a: u32, b: u32, c: u32, d: u32, e: u32, f: u32, image: &mut [u8]) -> u8
-    requires { ⌜ Image (now image) ⌝ }
-    ensures { λ r. ⌜ Gives (plainly (said kind a b c d e f) (view (now (image .entry)))) (now (image .entry)) r (view (now (image .exit)) .running) (now (image .exit)) ⌝ }
-{
-    let reading = kinds::reading_of(kind, [a, b, c, d, e, f]);
-    match reading {
-        rules::Reading::Says(call, interrupt) => calls::serve(image, call, interrupt),
-        rules::Reading::Unknown(interrupt) => unknown_kind(interrupt),
-    }
-}
-
 // The answer, and the task that runs now.
-fn answered(answer: u8, image: &[u8]) -> NtkOutcome
+fn answered(answer: u8, image: &[u8]) -> u64
     requires { ⌜ Image (now image) ⌝ }
-    ensures { λ r. ⌜ (r .answer ≡ answer) × (r .runs ≡ view (now (image .entry)) .running) ⌝ }
+    ensures { λ r. ⌜ (answerIn r ≡ answer) × (runsIn r ≡ view (now (image .entry)) .running) ⌝ }
 {
     let v = table::numbers::get_running(image);
     outcome(answer, v)
+}
+
+// A call on an image whose table is taken to be sound. The numbers are not one array, and the task to run is left in the image: either would
+// go through memory.
+fn serve_kind(kind: u8, a: u32, b: u32, c: u32, d: u32, e: u32, f: u32, image: &mut [u8]) -> u8
+    requires { ⌜ Image (now image) ⌝ }
+    ensures { λ r. ⌜ Gives (plainly (said kind a b c d e f) (view (now (image .entry)))) (now (image .entry)) r (view (now (image .exit)) .running) (now (image .exit)) ⌝ }
+{
+    let row = kinds::row_of(kinds::let_in(kind), [a, b, c, d, e, f]);
+    match row {
+        kinds::Row::Has(call, _) => calls::serve_task(image, call),
+        kinds::Row::Lacks => not_let_in(kinds::is_interrupt(kind)),
+    }
+}
+
+// The same, with the task to run. The compiler learns the image's length here, and no function below is handed it.
+fn serve_plainly(kind: u8, a: u32, b: u32, c: u32, d: u32, e: u32, f: u32, image: &mut [u8]) -> u64
+    requires { ⌜ Image (now image) ⌝ }
+    ensures { λ r. ⌜ Gives (plainly (said kind a b c d e f) (view (now (image .entry)))) (now (image .entry)) (answerIn r) (runsIn r) (now (image .exit)) ⌝ }
+{
+    let n = serve_kind(kind, a, b, c, d, e, f, &mut image[0..layout::IMAGE_SIZE]);
+    answered(n, image)
 }
 
 // A call on any bytes.
@@ -76,14 +93,13 @@ pub extern "C" fn ntk_step(
 ) -> NtkOutcome
     ensures { λ r. ⌜ Stepped kind a b c d e f (now (image .entry)) (r .answer) (r .runs) (now (image .exit)) ⌝ }
 {
-    if image.len() != table::layout::IMAGE_SIZE {
-        return not_sound();
+    if image.len() != layout::IMAGE_SIZE {
+        return split(not_sound());
     }
     if !sound::is_sound(image) {
-        return not_sound();
+        return split(not_sound());
     }
-    let n = serve_plainly(kind, a, b, c, d, e, f, image);
-    answered(n, image)
+    split(serve_plainly(kind, a, b, c, d, e, f, image))
 }
 
 // The same without the test of the table: for an image that this library alone has changed since it was zeroed.
@@ -100,9 +116,8 @@ pub extern "C" fn ntk_serve(
 ) -> NtkOutcome
     ensures { λ r. ⌜ ServedPlainly kind a b c d e f (now (image .entry)) (r .answer) (r .runs) (now (image .exit)) ⌝ }
 {
-    if image.len() != table::layout::IMAGE_SIZE {
-        return not_sound();
+    if image.len() != layout::IMAGE_SIZE {
+        return split(not_sound());
     }
-    let n = serve_plainly(kind, a, b, c, d, e, f, image);
-    answered(n, image)
+    split(serve_plainly(kind, a, b, c, d, e, f, image))
 }

@@ -8,31 +8,35 @@ use Rattle.port.proofs.ntk_step.Tie as tie
 
 returns : tie.Need-returns
 returns c =
-    let a = c .before .before .before .args in
-    gives-by (step-wrong (a .kind) (a .a) (a .b) (a .c) (a .d) (a .e) (a .f) (a .image .now) (c .before .if1 .taken)) (gives-unsound (a .image .now) (c .not-sound .ensures .0) (c .not-sound .ensures .1))
+    let n = c .before in
+    let a = n .before .before .before .args in
+    gives-by (step-wrong (a .kind) (a .a) (a .b) (a .c) (a .d) (a .e) (a .f) (a .image .now) (n .before .if1 .taken)) (gives-unsound (a .image .now) (c .split .ensures .0 ∙ n .not-sound .ensures .0) (c .split .ensures .1 ∙ n .not-sound .ensures .1))
 
 returns-2 : tie.Need-returns-2
 returns-2 c =
-    let s = c .before .before in
+    let n = c .before in
+    let s = n .before .before in
     let e = s .before .before in
     let a = e .before .before .args in
-    gives-by (step-unsound (a .kind) (a .a) (a .b) (a .c) (a .d) (a .e) (a .f) (a .image .now) (e .if1 .left) (sym (s .is-sound .ensures) ∙ not-true _ (c .before .if2 .taken))) (gives-unsound (a .image .now) (c .not-sound2 .ensures .0) (c .not-sound2 .ensures .1))
+    gives-by (step-unsound (a .kind) (a .a) (a .b) (a .c) (a .d) (a .e) (a .f) (a .image .now) (e .if1 .left) (sym (s .is-sound .ensures) ∙ not-true _ (n .before .if2 .taken))) (gives-unsound (a .image .now) (c .split2 .ensures .0 ∙ n .not-sound2 .ensures .0) (c .split2 .ensures .1 ∙ n .not-sound2 .ensures .1))
 
 returns-3 : tie.Need-returns-3
 returns-3 c =
-    let p = c .before .before .before .before in
+    let p = c .before .before .before in
     let f = p .before .before in
     let s = f .before in
     let e = s .before .before in
     let a = e .before .before .args in
-    gives-by (step-sound (a .kind) (a .a) (a .b) (a .c) (a .d) (a .e) (a .f) (a .image .now) (e .if1 .left) (sym (s .is-sound .ensures) ∙ not-false _ (f .if2 .left))) (gives-answered (p .serve-plainly .ensures) (c .answered .ensures .0) (c .answered .ensures .1))
+    gives-by (step-sound (a .kind) (a .a) (a .b) (a .c) (a .d) (a .e) (a .f) (a .image .now) (e .if1 .left) (sym (s .is-sound .ensures) ∙ not-false _ (f .if2 .left))) (gives-answered (p .serve-plainly .ensures) (c .split3 .ensures .0) (c .split3 .ensures .1))
 
 pub ntk-step-spec : {M : Type 1} → statement M
 ntk-step-spec =
     tie.close
     (tie.spec
     (λ c κs. search needs)
+    (λ c κs. search needs)
     returns
+    (λ c κs. search needs)
     (λ c κs. search needs)
     (λ c κs. search needs)
     (λ c. search needs)

@@ -3,8 +3,8 @@ use mathlib.Core.Bool.{Bool, cond}
 use Prim.Native.Nat.{ℕ}
 use borrow.Author.Tests.{not-true, not-false}
 use Rattle.rules.specs.Sizes.{byInterrupt, beyondRange}
-use Rattle.port.proofs.unknown_kind.Statement.{statement}
-use Rattle.port.proofs.unknown_kind.Tie as tie
+use Rattle.port.proofs.not_let_in.Statement.{statement}
+use Rattle.port.proofs.not_let_in.Tie as tie
 
 returns : tie.Need-returns
 returns c = sym (ap (λ (b : Bool). cond b byInterrupt beyondRange) (not-true (c .before .args .interrupt) (c .if1 .taken)))
@@ -12,5 +12,5 @@ returns c = sym (ap (λ (b : Bool). cond b byInterrupt beyondRange) (not-true (c
 returns-2 : tie.Need-returns-2
 returns-2 c = sym (ap (λ (b : Bool). cond b byInterrupt beyondRange) (not-false (c .before .args .interrupt) (c .if1 .left)))
 
-pub unknown-kind-spec : {M : Type 1} → statement M
-unknown-kind-spec = tie.close (tie.spec returns returns-2)
+pub not-let-in-spec : {M : Type 1} → statement M
+not-let-in-spec = tie.close (tie.spec returns returns-2)
