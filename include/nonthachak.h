@@ -1,9 +1,9 @@
 /* nonthachak.h: the kernel's bookkeeping, for the C port.
  *
- * The port owns a block of NTK_IMAGE_SIZE bytes, the image, zeroed at start-up, and calls ntk_step with interrupts shut for each
- * service call and each tick. ntk_step changes the image in place and says how the call was answered and which task is to run; ntk_read
- * shows a field of it.
- * docs/PORT.md tells how to use it, docs/IMAGE.md what each byte means.
+ * The port owns a block of NTK_IMAGE_SIZE bytes, the image, zeroed at start-up, and makes each service call and each tick on it, with
+ * interrupts shut: by a function for each service (ntk_mutex_wait and so on) or by ntk_step, which they are made of. A call changes the
+ * image in place and says how it was answered and which task is to run; ntk_read shows a field of it.
+ * docs/PORT.md tells how to use it, docs/API.md each service, docs/ANSWERS.md each answer, docs/IMAGE.md what each byte means.
  */
 #ifndef NONTHACHAK_H
 #define NONTHACHAK_H
@@ -14,6 +14,14 @@
 #ifdef __cplusplus
 extern "C" {
 #endif
+
+/* The version of this header; ntk_version() is that of the archive. A port is built right where the two are the same. */
+#define NTK_VERSION_MAJOR 0
+#define NTK_VERSION_MINOR 3
+#define NTK_VERSION_PATCH 0
+#define NTK_VERSION (NTK_VERSION_MAJOR * 10000u + NTK_VERSION_MINOR * 100u + NTK_VERSION_PATCH)
+
+uint32_t ntk_version(void);
 
 /* How long an image is. Zeroed memory is the fresh table. */
 #define NTK_IMAGE_SIZE 2190
@@ -66,6 +74,17 @@ enum ntk_kind {
 /* The tests of a wait for flags: what it asks of the flags of its mask. A wait that consumes turns over those that are as it asks. */
 enum ntk_test { NTK_ALL_SET = 0, NTK_ANY_SET = 1, NTK_ALL_CLEAR = 2, NTK_ANY_CLEAR = 3 };
 
+/* The numbers 0 and 1 of a call, by name: block, limit, force, consume, and what a post of flags does. */
+#define NTK_NO_BLOCK 0u
+#define NTK_MAY_BLOCK 1u
+#define NTK_FOREVER 0u
+#define NTK_NO_FORCE 0u
+#define NTK_FORCE 1u
+#define NTK_KEEP 0u
+#define NTK_CONSUME 1u
+#define NTK_CLEAR 0u
+#define NTK_SET 1u
+
 /* Answers. NTK_DONE and NTK_BLOCKS alone change the image. */
 enum ntk_answer {
     NTK_DONE = 0,
@@ -89,21 +108,33 @@ enum ntk_answer {
 /* The outcome of a task's last wait or delay; NTK_NO_SUCH_TASK for a number that is no task's. */
 enum ntk_wait { NTK_GIVEN = 0, NTK_TIMED_OUT = 1, NTK_ABORTED = 2, NTK_DELETED = 3, NTK_NO_SUCH_TASK = 255 };
 
-/* `runs` is the task to run, plus 1; 0 is none. */
+/* `runs` is the task to run, plus 1; 0 is none: ntk_task_of(o.runs) is its number. */
 struct ntk_outcome {
     uint32_t answer;
     uint32_t runs;
 };
 
-/* One call on the image of `length` bytes at `image`. Any arguments are taken; a refused call leaves every byte as it came.
- * Numbers that the kind does not use are not looked at. Not reentrant on one image: call it with interrupts shut. */
-struct ntk_outcome ntk_step(uint8_t kind, uint32_t a, uint32_t b, uint32_t c, uint32_t d, uint32_t e, uint32_t f, uint8_t *image,
-                            size_t length);
+/* The compiler warns where an outcome is dropped: a refusal would pass unseen, and so would the task to run. */
+#if (defined __cplusplus && __cplusplus >= 201703L) || (defined __STDC_VERSION__ && __STDC_VERSION__ > 201710L)
+#define NTK_MUST_USE [[nodiscard]]
+#elif defined __GNUC__
+#define NTK_MUST_USE __attribute__((warn_unused_result))
+#else
+#define NTK_MUST_USE
+#endif
+
+/* One call on the image of `length` bytes at `image`. Any kind, numbers, bytes and length are taken; a refused call leaves every byte as it
+ * came. Numbers that the kind does not use are not looked at.
+ * What `image` must be is C's to see to, as no kernel can test it, here and in every function below: real memory of `length` bytes, which
+ * may be read and written, at any alignment; no part of it the kernel's own, its code and its stack; and the call's alone while it lasts.
+ * So it is not reentrant on one image: call it with interrupts shut. */
+NTK_MUST_USE struct ntk_outcome ntk_step(uint8_t kind, uint32_t a, uint32_t b, uint32_t c, uint32_t d, uint32_t e, uint32_t f,
+                                         uint8_t *image, size_t length);
 
 /* The same without the test of the image, and quicker: for an image that was zeroed and that only these two functions have changed
  * since. There it gives what ntk_step gives. On an image that breaks a standing rule it gives no sensible table. */
-struct ntk_outcome ntk_serve(uint8_t kind, uint32_t a, uint32_t b, uint32_t c, uint32_t d, uint32_t e, uint32_t f, uint8_t *image,
-                             size_t length);
+NTK_MUST_USE struct ntk_outcome ntk_serve(uint8_t kind, uint32_t a, uint32_t b, uint32_t c, uint32_t d, uint32_t e, uint32_t f,
+                                          uint8_t *image, size_t length);
 
 /* Fields, for ntk_read: what each shows, and which numbers it has. The first digit says whose it is, as with the kinds of calls.
  * Where "none" may stand (a holder, the running task, a slot), a task is its number plus 1, and 0 is none. */
@@ -150,8 +181,9 @@ enum ntk_state { NTK_PLAIN = 0, NTK_DELAYED = 1, NTK_WAITS_SEMAPHORE = 2, NTK_WA
 /* What no field shows: a field has 32 bits. */
 #define NTK_NO_FIELD UINT64_MAX
 
-/* What a field shows in the image of `length` bytes at `image`. Any arguments are taken: where the field or the number is unknown, or the
- * length wrong, it is NTK_NO_FIELD. The image is not tested, and not changed; call it with interrupts shut, or on a copy. */
+/* What a field shows in the image of `length` bytes at `image`. Any field, number, bytes and length are taken: where the field or the
+ * number is unknown, or the length wrong, it is NTK_NO_FIELD. The image is not tested, and not changed: it must be as for ntk_step, but need
+ * not be writable. Call it with interrupts shut, or on a copy. */
 uint64_t ntk_read(uint32_t field, uint32_t number, const uint8_t *image, size_t length);
 
 /* The same of an image of NTK_IMAGE_SIZE bytes, for what a port asks most. */
@@ -200,7 +232,194 @@ static inline uint32_t ntk_tick_count(const uint8_t *image)
     return NTK_AS(uint32_t, ntk_read(NTK_FIELD_TICK, 0, image, NTK_IMAGE_SIZE));
 }
 
+/* No task: a number that no task has. */
+#define NTK_NONE UINT32_MAX
+
+/* The number of the task that `runs`, a holder, the running task or a slot shows, plus 1 as they have it; NTK_NONE where they show none.
+ * What it gives is NTK_NONE or below NTK_TASKS, whatever it takes. */
+static inline uint32_t ntk_task_of(uint64_t shown)
+{
+    return shown >= 1 && shown <= NTK_TASKS ? NTK_AS(uint32_t, shown - 1) : NTK_NONE;
+}
+
 #undef NTK_AS
+
+/* The name of an answer, in words; docs/ANSWERS.md has what to do about each. "unknown" for a number that is none. */
+static inline const char *ntk_answer_name(uint32_t answer)
+{
+    switch (answer) {
+    case NTK_DONE: return "done";
+    case NTK_BEYOND_RANGE: return "beyond range";
+    case NTK_NOT_IN_USE: return "not in use";
+    case NTK_IN_USE: return "in use";
+    case NTK_BAD_VALUE: return "bad value";
+    case NTK_BY_INTERRUPT: return "by interrupt";
+    case NTK_NONE_RUNNING: return "none running";
+    case NTK_WHILE_LOCKED: return "while locked";
+    case NTK_NOTHING_TO_TAKE: return "nothing to take";
+    case NTK_NOT_ITS_HOLDER: return "not its holder";
+    case NTK_TOO_DEEP: return "nested too deep";
+    case NTK_COUNT_FULL: return "count full";
+    case NTK_NOTHING_TO_UNDO: return "nothing to undo";
+    case NTK_STILL_NEEDED: return "still needed";
+    case NTK_BLOCKS: return "blocks";
+    case NTK_NOT_SOUND: return "not sound";
+    default: return "unknown";
+    }
+}
+
+/* A function for each kind, on an image of NTK_IMAGE_SIZE bytes: its name is the kind's in small letters, and its numbers are a, b and so
+ * on in their order. Those that an interrupt may make have a form for it too, _isr. docs/API.md has a section for each.
+ * They are made of ntk_step. A port that has settled on ntk_serve defines NTK_CALL as ntk_serve before it includes this header. */
+#ifndef NTK_CALL
+#define NTK_CALL ntk_step
+#endif
+
+NTK_MUST_USE static inline struct ntk_outcome ntk_task_create(uint8_t *image, uint32_t task, uint32_t base, uint32_t quantum)
+{
+    return NTK_CALL(NTK_TASK_CREATE, task, base, quantum, 0, 0, 0, image, NTK_IMAGE_SIZE);
+}
+
+NTK_MUST_USE static inline struct ntk_outcome ntk_task_delete(uint8_t *image, uint32_t task)
+{
+    return NTK_CALL(NTK_TASK_DELETE, task, 0, 0, 0, 0, 0, image, NTK_IMAGE_SIZE);
+}
+
+NTK_MUST_USE static inline struct ntk_outcome ntk_change_priority(uint8_t *image, uint32_t task, uint32_t base)
+{
+    return NTK_CALL(NTK_CHANGE_PRIORITY, task, base, 0, 0, 0, 0, image, NTK_IMAGE_SIZE);
+}
+
+NTK_MUST_USE static inline struct ntk_outcome ntk_suspend(uint8_t *image, uint32_t task)
+{
+    return NTK_CALL(NTK_SUSPEND, task, 0, 0, 0, 0, 0, image, NTK_IMAGE_SIZE);
+}
+
+NTK_MUST_USE static inline struct ntk_outcome ntk_resume(uint8_t *image, uint32_t task)
+{
+    return NTK_CALL(NTK_RESUME, task, 0, 0, 0, 0, 0, image, NTK_IMAGE_SIZE);
+}
+
+NTK_MUST_USE static inline struct ntk_outcome ntk_yield(uint8_t *image)
+{
+    return NTK_CALL(NTK_YIELD, 0, 0, 0, 0, 0, 0, image, NTK_IMAGE_SIZE);
+}
+
+NTK_MUST_USE static inline struct ntk_outcome ntk_delay(uint8_t *image, uint32_t ticks)
+{
+    return NTK_CALL(NTK_DELAY, ticks, 0, 0, 0, 0, 0, image, NTK_IMAGE_SIZE);
+}
+
+NTK_MUST_USE static inline struct ntk_outcome ntk_delay_resume(uint8_t *image, uint32_t task)
+{
+    return NTK_CALL(NTK_DELAY_RESUME, task, 0, 0, 0, 0, 0, image, NTK_IMAGE_SIZE);
+}
+
+NTK_MUST_USE static inline struct ntk_outcome ntk_lock(uint8_t *image)
+{
+    return NTK_CALL(NTK_LOCK, 0, 0, 0, 0, 0, 0, image, NTK_IMAGE_SIZE);
+}
+
+NTK_MUST_USE static inline struct ntk_outcome ntk_unlock(uint8_t *image)
+{
+    return NTK_CALL(NTK_UNLOCK, 0, 0, 0, 0, 0, 0, image, NTK_IMAGE_SIZE);
+}
+
+NTK_MUST_USE static inline struct ntk_outcome ntk_tick(uint8_t *image)
+{
+    return NTK_CALL(NTK_TICK, 0, 0, 0, 0, 0, 0, image, NTK_IMAGE_SIZE);
+}
+
+NTK_MUST_USE static inline struct ntk_outcome ntk_tick_isr(uint8_t *image)
+{
+    return NTK_CALL(NTK_TICK | NTK_INTERRUPT, 0, 0, 0, 0, 0, 0, image, NTK_IMAGE_SIZE);
+}
+
+NTK_MUST_USE static inline struct ntk_outcome ntk_semaphore_create(uint8_t *image, uint32_t semaphore, uint32_t count)
+{
+    return NTK_CALL(NTK_SEMAPHORE_CREATE, semaphore, count, 0, 0, 0, 0, image, NTK_IMAGE_SIZE);
+}
+
+NTK_MUST_USE static inline struct ntk_outcome ntk_semaphore_delete(uint8_t *image, uint32_t semaphore, uint32_t force)
+{
+    return NTK_CALL(NTK_SEMAPHORE_DELETE, semaphore, force, 0, 0, 0, 0, image, NTK_IMAGE_SIZE);
+}
+
+NTK_MUST_USE static inline struct ntk_outcome ntk_semaphore_wait(uint8_t *image, uint32_t semaphore, uint32_t block, uint32_t limit)
+{
+    return NTK_CALL(NTK_SEMAPHORE_WAIT, semaphore, block, limit, 0, 0, 0, image, NTK_IMAGE_SIZE);
+}
+
+NTK_MUST_USE static inline struct ntk_outcome ntk_semaphore_post(uint8_t *image, uint32_t semaphore)
+{
+    return NTK_CALL(NTK_SEMAPHORE_POST, semaphore, 0, 0, 0, 0, 0, image, NTK_IMAGE_SIZE);
+}
+
+NTK_MUST_USE static inline struct ntk_outcome ntk_semaphore_post_isr(uint8_t *image, uint32_t semaphore)
+{
+    return NTK_CALL(NTK_SEMAPHORE_POST | NTK_INTERRUPT, semaphore, 0, 0, 0, 0, 0, image, NTK_IMAGE_SIZE);
+}
+
+NTK_MUST_USE static inline struct ntk_outcome ntk_semaphore_abort(uint8_t *image, uint32_t semaphore)
+{
+    return NTK_CALL(NTK_SEMAPHORE_ABORT, semaphore, 0, 0, 0, 0, 0, image, NTK_IMAGE_SIZE);
+}
+
+NTK_MUST_USE static inline struct ntk_outcome ntk_mutex_create(uint8_t *image, uint32_t mutex)
+{
+    return NTK_CALL(NTK_MUTEX_CREATE, mutex, 0, 0, 0, 0, 0, image, NTK_IMAGE_SIZE);
+}
+
+NTK_MUST_USE static inline struct ntk_outcome ntk_mutex_delete(uint8_t *image, uint32_t mutex, uint32_t force)
+{
+    return NTK_CALL(NTK_MUTEX_DELETE, mutex, force, 0, 0, 0, 0, image, NTK_IMAGE_SIZE);
+}
+
+NTK_MUST_USE static inline struct ntk_outcome ntk_mutex_wait(uint8_t *image, uint32_t mutex, uint32_t block, uint32_t limit)
+{
+    return NTK_CALL(NTK_MUTEX_WAIT, mutex, block, limit, 0, 0, 0, image, NTK_IMAGE_SIZE);
+}
+
+NTK_MUST_USE static inline struct ntk_outcome ntk_mutex_post(uint8_t *image, uint32_t mutex)
+{
+    return NTK_CALL(NTK_MUTEX_POST, mutex, 0, 0, 0, 0, 0, image, NTK_IMAGE_SIZE);
+}
+
+NTK_MUST_USE static inline struct ntk_outcome ntk_mutex_abort(uint8_t *image, uint32_t mutex)
+{
+    return NTK_CALL(NTK_MUTEX_ABORT, mutex, 0, 0, 0, 0, 0, image, NTK_IMAGE_SIZE);
+}
+
+NTK_MUST_USE static inline struct ntk_outcome ntk_group_create(uint8_t *image, uint32_t group, uint32_t flags)
+{
+    return NTK_CALL(NTK_GROUP_CREATE, group, flags, 0, 0, 0, 0, image, NTK_IMAGE_SIZE);
+}
+
+NTK_MUST_USE static inline struct ntk_outcome ntk_group_delete(uint8_t *image, uint32_t group, uint32_t force)
+{
+    return NTK_CALL(NTK_GROUP_DELETE, group, force, 0, 0, 0, 0, image, NTK_IMAGE_SIZE);
+}
+
+NTK_MUST_USE static inline struct ntk_outcome ntk_group_wait(uint8_t *image, uint32_t group, uint32_t block, uint32_t limit,
+                                                             uint32_t mask, uint32_t test, uint32_t consume)
+{
+    return NTK_CALL(NTK_GROUP_WAIT, group, block, limit, mask, test, consume, image, NTK_IMAGE_SIZE);
+}
+
+NTK_MUST_USE static inline struct ntk_outcome ntk_group_post(uint8_t *image, uint32_t group, uint32_t mask, uint32_t on)
+{
+    return NTK_CALL(NTK_GROUP_POST, group, mask, on, 0, 0, 0, image, NTK_IMAGE_SIZE);
+}
+
+NTK_MUST_USE static inline struct ntk_outcome ntk_group_post_isr(uint8_t *image, uint32_t group, uint32_t mask, uint32_t on)
+{
+    return NTK_CALL(NTK_GROUP_POST | NTK_INTERRUPT, group, mask, on, 0, 0, 0, image, NTK_IMAGE_SIZE);
+}
+
+NTK_MUST_USE static inline struct ntk_outcome ntk_group_abort(uint8_t *image, uint32_t group)
+{
+    return NTK_CALL(NTK_GROUP_ABORT, group, 0, 0, 0, 0, 0, image, NTK_IMAGE_SIZE);
+}
 
 #ifdef __cplusplus
 }

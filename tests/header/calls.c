@@ -1,0 +1,191 @@
+/* Each function of the header beside ntk_step: random calls, each by its function on one image and by ntk_step on another, and then the
+ * outcomes and the images are compared. Then the helpers. */
+#include <inttypes.h>
+#include <stdio.h>
+#include <string.h>
+
+#include "nonthachak.h"
+
+static uint8_t by_function[NTK_IMAGE_SIZE + 1], by_step[NTK_IMAGE_SIZE];
+static unsigned long compared, wrong;
+
+static void expect(const char *what, uint32_t number, uint64_t want, uint64_t got)
+{
+    compared++;
+    if (got == want || ++wrong > 20)
+        return;
+    printf("header: %s %" PRIx32 ": %" PRIx64 " expected, not %" PRIx64 "\n", what, number, want, got);
+}
+
+/* ---- the calls */
+
+/* A kind, and for each of its numbers the first that is too great to be drawn; how often it changed the table. */
+struct service {
+    uint8_t kind;
+    uint32_t below[6];
+    unsigned long changed;
+};
+
+static struct service services[] = {
+    {NTK_TASK_CREATE, {9, 5, 4}, 0},
+    {NTK_TASK_DELETE, {9}, 0},
+    {NTK_CHANGE_PRIORITY, {9, 5}, 0},
+    {NTK_SUSPEND, {9}, 0},
+    {NTK_RESUME, {9}, 0},
+    {NTK_YIELD, {0}, 0},
+    {NTK_DELAY, {4}, 0},
+    {NTK_DELAY_RESUME, {9}, 0},
+    {NTK_LOCK, {0}, 0},
+    {NTK_UNLOCK, {0}, 0},
+    {NTK_TICK, {0}, 0},
+    {NTK_TICK | NTK_INTERRUPT, {0}, 0},
+    {NTK_SEMAPHORE_CREATE, {4, 2}, 0},
+    {NTK_SEMAPHORE_DELETE, {4, 3}, 0},
+    {NTK_SEMAPHORE_WAIT, {4, 3, 20}, 0},
+    {NTK_SEMAPHORE_POST, {4}, 0},
+    {NTK_SEMAPHORE_POST | NTK_INTERRUPT, {4}, 0},
+    {NTK_SEMAPHORE_ABORT, {4}, 0},
+    {NTK_MUTEX_CREATE, {4}, 0},
+    {NTK_MUTEX_DELETE, {4, 3}, 0},
+    {NTK_MUTEX_WAIT, {4, 3, 20}, 0},
+    {NTK_MUTEX_POST, {4}, 0},
+    {NTK_MUTEX_ABORT, {4}, 0},
+    {NTK_GROUP_CREATE, {3, 8}, 0},
+    {NTK_GROUP_DELETE, {3, 3}, 0},
+    {NTK_GROUP_WAIT, {3, 3, 20, 8, 5, 3}, 0},
+    {NTK_GROUP_POST, {3, 8, 3}, 0},
+    {NTK_GROUP_POST | NTK_INTERRUPT, {3, 8, 3}, 0},
+    {NTK_GROUP_ABORT, {3}, 0},
+};
+#define SERVICES (sizeof services / sizeof services[0])
+
+static struct ntk_outcome call(uint8_t kind, const uint32_t *n, uint8_t *image)
+{
+    struct ntk_outcome unknown = {99, 99};
+
+    switch (kind) {
+    case NTK_TASK_CREATE: return ntk_task_create(image, n[0], n[1], n[2]);
+    case NTK_TASK_DELETE: return ntk_task_delete(image, n[0]);
+    case NTK_CHANGE_PRIORITY: return ntk_change_priority(image, n[0], n[1]);
+    case NTK_SUSPEND: return ntk_suspend(image, n[0]);
+    case NTK_RESUME: return ntk_resume(image, n[0]);
+    case NTK_YIELD: return ntk_yield(image);
+    case NTK_DELAY: return ntk_delay(image, n[0]);
+    case NTK_DELAY_RESUME: return ntk_delay_resume(image, n[0]);
+    case NTK_LOCK: return ntk_lock(image);
+    case NTK_UNLOCK: return ntk_unlock(image);
+    case NTK_TICK: return ntk_tick(image);
+    case NTK_TICK | NTK_INTERRUPT: return ntk_tick_isr(image);
+    case NTK_SEMAPHORE_CREATE: return ntk_semaphore_create(image, n[0], n[1]);
+    case NTK_SEMAPHORE_DELETE: return ntk_semaphore_delete(image, n[0], n[1]);
+    case NTK_SEMAPHORE_WAIT: return ntk_semaphore_wait(image, n[0], n[1], n[2]);
+    case NTK_SEMAPHORE_POST: return ntk_semaphore_post(image, n[0]);
+    case NTK_SEMAPHORE_POST | NTK_INTERRUPT: return ntk_semaphore_post_isr(image, n[0]);
+    case NTK_SEMAPHORE_ABORT: return ntk_semaphore_abort(image, n[0]);
+    case NTK_MUTEX_CREATE: return ntk_mutex_create(image, n[0]);
+    case NTK_MUTEX_DELETE: return ntk_mutex_delete(image, n[0], n[1]);
+    case NTK_MUTEX_WAIT: return ntk_mutex_wait(image, n[0], n[1], n[2]);
+    case NTK_MUTEX_POST: return ntk_mutex_post(image, n[0]);
+    case NTK_MUTEX_ABORT: return ntk_mutex_abort(image, n[0]);
+    case NTK_GROUP_CREATE: return ntk_group_create(image, n[0], n[1]);
+    case NTK_GROUP_DELETE: return ntk_group_delete(image, n[0], n[1]);
+    case NTK_GROUP_WAIT: return ntk_group_wait(image, n[0], n[1], n[2], n[3], n[4], n[5]);
+    case NTK_GROUP_POST: return ntk_group_post(image, n[0], n[1], n[2]);
+    case NTK_GROUP_POST | NTK_INTERRUPT: return ntk_group_post_isr(image, n[0], n[1], n[2]);
+    case NTK_GROUP_ABORT: return ntk_group_abort(image, n[0]);
+    default: return unknown;
+    }
+}
+
+static uint32_t some_number(void)
+{
+    static uint32_t state = 20261116u;
+
+    state ^= state << 13;
+    state ^= state >> 17;
+    state ^= state << 5;
+    return state;
+}
+
+/* One call of the service on both images; now and then with a number that is mostly beyond its range. The image of the functions stands
+ * at an odd address, as any alignment will do. */
+static void call_both(struct service *s)
+{
+    uint8_t *image = by_function + 1;
+    uint32_t n[6];
+    struct ntk_outcome f, o;
+    unsigned i;
+
+    for (i = 0; i < 6; i++)
+        n[i] = s->below[i] == 0 ? 0 : some_number() % 32 == 0 ? some_number() : some_number() % s->below[i];
+    f = call(s->kind, n, image);
+    o = ntk_step(s->kind, n[0], n[1], n[2], n[3], n[4], n[5], by_step, NTK_IMAGE_SIZE);
+    expect("the answer of kind", s->kind, o.answer, f.answer);
+    expect("who runs after kind", s->kind, o.runs, f.runs);
+    expect("images that differ after kind", s->kind, 0, memcmp(image, by_step, NTK_IMAGE_SIZE) != 0);
+    s->changed += o.answer == NTK_DONE || o.answer == NTK_BLOCKS;
+}
+
+/* The next service. What leaves few tasks to run, and so few calls that are accepted, comes more seldom. */
+static struct service *some_service(void)
+{
+    struct service *s = &services[some_number() % SERVICES];
+
+    if ((s->kind == NTK_LOCK || s->kind == NTK_SUSPEND || s->kind == NTK_TASK_DELETE) && some_number() % 4 > 0)
+        return &services[0];
+    return s;
+}
+
+static void call_all(void)
+{
+    unsigned long i;
+
+    for (i = 0; i < 200000; i++) {
+        if (i % 500 == 0) {
+            memset(by_function, 0, sizeof by_function);
+            memset(by_step, 0, sizeof by_step);
+        }
+        call_both(some_service());
+    }
+    for (i = 0; i < SERVICES; i++)
+        if (services[i].changed < 20)
+            expect("calls that changed the table, 20 and more, of kind", services[i].kind, 20, services[i].changed);
+}
+
+/* ---- the helpers */
+
+static void read_tasks(void)
+{
+    uint32_t i;
+
+    expect("a task that NTK_NONE names", NTK_NONE, 0, NTK_NONE < NTK_TASKS);
+    expect("no task", 0, NTK_NONE, ntk_task_of(0));
+    expect("the task of no field", 0, NTK_NONE, ntk_task_of(NTK_NO_FIELD));
+    for (i = 0; i < 300; i++)
+        expect("the task of", i + 1, i < NTK_TASKS ? i : NTK_NONE, ntk_task_of(i + 1u));
+    expect("the task of 2^32 + 1", 0, NTK_NONE, ntk_task_of(4294967297u));
+}
+
+static void name_answers(void)
+{
+    uint32_t i, j;
+
+    for (i = 0; i <= NTK_NOT_SOUND; i++)
+        for (j = 0; j <= NTK_NOT_SOUND + 1; j++)
+            expect("the same name as another, answer", i, i == j, strcmp(ntk_answer_name(i), ntk_answer_name(j)) == 0);
+    expect("a name of no answer", 16, 0, strcmp(ntk_answer_name(16), "unknown") != 0);
+    expect("a name of no answer", 4294967295u, 0, strcmp(ntk_answer_name(4294967295u), "unknown") != 0);
+}
+
+int main(void)
+{
+    call_all();
+    read_tasks();
+    name_answers();
+    if (wrong > 0) {
+        printf("header: %lu of %lu wrong\n", wrong, compared);
+        return 1;
+    }
+    printf("header: %lu calls and names compared, all right\n", compared);
+    return 0;
+}
