@@ -14,6 +14,10 @@ use Rattle.rules.specs.declared.Reading.{Reading}
 use Rattle.rules.specs.declared.Reading.the-variants.{Says, Unknown}
 use Rattle.table.specs.Image.{imageSize, view, imageOf}
 
+-- The library's version, which the header has too: 1.1.1.
+abbrev pub version : ℕ
+version = 10101
+
 -- Where the bytes are an image's by their length, what the rules say of the table that they show; else 15.
 unfoldable pub sized : (Table → Outcome) → List ℕ → Outcome
 sized rule l = let o = rule (view l) in cond (eqb (length l) imageSize) o (unsound (view l))

@@ -3,7 +3,7 @@ ghost use mathlib.Core.Path.{_≡_};
 ghost use mathlib.Core.Bool.{cond};
 ghost use Rattle.rules.specs.Sizes.{byInterrupt, beyondRange, notSound};
 ghost use Rattle.table.specs.Image.{Image, view};
-ghost use Rattle.port.specs.Step.{said, plainly, answerIn, runsIn, Gives, Stepped, ServedPlainly};
+ghost use Rattle.port.specs.Step.{said, plainly, answerIn, runsIn, version, Gives, Stepped, ServedPlainly};
 use table::layout;
 
 pub mod read;
@@ -77,6 +77,16 @@ fn serve_plainly(kind: u8, a: u32, b: u32, c: u32, d: u32, e: u32, f: u32, image
 {
     let n = serve_kind(kind, a, b, c, d, e, f, &mut image[0..layout::IMAGE_SIZE]);
     answered(n, image)
+}
+
+// The version of this library: major, minor and patch, two digits for each of the last two. The header has the same.
+const VERSION: u32 = 10101;
+
+#[no_mangle]
+pub extern "C" fn ntk_version() -> u32
+    ensures { λ r. ⌜ r ≡ version ⌝ }
+{
+    VERSION
 }
 
 // A call on any bytes.
