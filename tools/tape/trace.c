@@ -1,0 +1,121 @@
+/* A tape played call by call, each told in words. */
+#include <string.h>
+
+#include "kinds.h"
+#include "nonthachak.h"
+#include "reel.h"
+#include "tape.h"
+#include "tell.h"
+
+static const char *const answers[] = {
+    [NTK_DONE] = "done",
+    [NTK_BEYOND_RANGE] = "beyond range",
+    [NTK_NOT_IN_USE] = "not in use",
+    [NTK_IN_USE] = "in use",
+    [NTK_BAD_VALUE] = "bad value",
+    [NTK_BY_INTERRUPT] = "by interrupt",
+    [NTK_NONE_RUNNING] = "none running",
+    [NTK_WHILE_LOCKED] = "while locked",
+    [NTK_NOTHING_TO_TAKE] = "nothing to take",
+    [NTK_NOT_ITS_HOLDER] = "not its holder",
+    [NTK_TOO_DEEP] = "too deep",
+    [NTK_COUNT_FULL] = "count full",
+    [NTK_NOTHING_TO_UNDO] = "nothing to undo",
+    [NTK_STILL_NEEDED] = "still needed",
+    [NTK_BLOCKS] = "blocks",
+    [NTK_NOT_SOUND] = "not sound",
+};
+
+/* Fills up to a column, and leaves two spaces in any case: a column is told from the next by them. */
+static void pad(struct line *line, size_t column)
+{
+    line_add(line, "  ");
+    while (line->length < column)
+        line_add(line, " ");
+}
+
+static void add_task(struct line *line, uint32_t runs, const char *none)
+{
+    if (runs == 0)
+        line_add(line, "%s", none);
+    else
+        line_add(line, "task %lu", (unsigned long)(runs - 1));
+}
+
+enum { CALLER = 8, WORDS = 19, ANSWER = 74, RUNS = 95 };
+
+static void write_heading(FILE *out)
+{
+    struct line line = {0};
+
+    line_add(&line, "  call");
+    pad(&line, CALLER);
+    line_add(&line, "caller");
+    pad(&line, WORDS);
+    line_add(&line, "what");
+    pad(&line, ANSWER);
+    line_add(&line, "answer");
+    pad(&line, RUNS);
+    line_add(&line, "runs");
+    write_line(out, line.text);
+}
+
+static void write_call(FILE *out, const struct reel *reel, const struct call *call, uint32_t caller, struct ntk_outcome outcome)
+{
+    struct line line = {0};
+    int named = outcome.answer < sizeof answers / sizeof *answers;
+
+    line_add(&line, "%6llu", (unsigned long long)reel->calls);
+    pad(&line, CALLER);
+    if (call->interrupt)
+        line_add(&line, "interrupt");
+    else
+        add_task(&line, caller, "none");
+    pad(&line, WORDS);
+    call_words(&line, call);
+    pad(&line, ANSWER);
+    line_add(&line, "%lu %s", (unsigned long)outcome.answer, named ? answers[outcome.answer] : "?");
+    pad(&line, RUNS);
+    add_task(&line, outcome.runs, "none");
+    write_line(out, line.text);
+}
+
+static void write_bad(FILE *out, const struct reel *reel)
+{
+    struct line line = {0};
+
+    if (reel->at == 0)
+        write_heading(out);
+    line_add(&line, "%6llu", (unsigned long long)(reel->calls + 1));
+    pad(&line, CALLER);
+    line_add(&line, "bad, ");
+    reel_bad(&line, reel);
+    write_line(out, line.text);
+}
+
+void trace(FILE *tape, const char *name, FILE *out, int with_table)
+{
+    static uint8_t image[NTK_IMAGE_SIZE], before[NTK_IMAGE_SIZE];
+    struct reel reel = reel_of(tape);
+    struct call call;
+    enum got got;
+
+    memset(image, 0, sizeof image);
+    while ((got = reel_next(&reel, &call)) == GOT_CALL) {
+        const uint32_t *n = call.numbers;
+        uint8_t kind = reel.bytes[0];
+        struct ntk_outcome outcome;
+
+        if (reel.at == 0)
+            write_heading(out);
+        memcpy(before, image, sizeof image);
+        outcome = ntk_step(kind, n[0], n[1], n[2], n[3], n[4], n[5], image, sizeof image);
+        write_call(out, &reel, &call, ntk_running(before), outcome);
+        if (with_table)
+            write_changes(out, before, image);
+        progress(reel.calls, "calls");
+    }
+    if (got == GOT_BAD)
+        write_bad(out, &reel);
+    end_reading(tape, name);
+}
