@@ -1,0 +1,193 @@
+"""The kernel's table of a halted board, printed by gdb in columns.
+
+    (gdb) source tools/gdb/nonthachak.py
+    (gdb) nonthachak table
+
+The word is the image: an array of bytes as the port has it, or its address. Only memory is read: nothing is called on the board, and the
+table need not be sound. What is not in use is left out; `help nonthachak` tells how the rest is shown.
+"""
+
+import gdb
+
+# docs/IMAGE.md, row by row: offset, width, count, what. tests/gdb/run holds it against that page and against NTK_IMAGE_SIZE.
+COLUMNS = [
+    (0, 1, 32, "task used"),
+    (32, 1, 32, "task base"),
+    (64, 1, 32, "task work"),
+    (96, 1, 32, "task suspend"),
+    (128, 1, 32, "task state"),
+    (160, 1, 32, "task object"),
+    (192, 1, 32, "task marked"),
+    (224, 1, 32, "task outcome"),
+    (256, 1, 32, "task test"),
+    (288, 1, 32, "task consume"),
+    (320, 2, 32, "task quantum"),
+    (384, 2, 32, "task left"),
+    (448, 4, 32, "task due"),
+    (576, 4, 32, "task mask"),
+    (704, 1, 16, "semaphore used"),
+    (720, 4, 16, "semaphore count"),
+    (784, 1, 16, "mutex used"),
+    (800, 1, 16, "mutex holder"),
+    (816, 1, 16, "mutex nesting"),
+    (832, 1, 8, "group used"),
+    (840, 4, 8, "group flags"),
+    (872, 32, 41, "queue"),
+    (2184, 4, 1, "tick"),
+    (2188, 1, 1, "depth"),
+    (2189, 1, 1, "running"),
+]
+SIZE = COLUMNS[-1][0] + COLUMNS[-1][1] * COLUMNS[-1][2]
+
+# The queue of number 0 of each kind of object; that of the able tasks is 0.
+ABLE = 0
+QUEUES = {"semaphore": 1, "mutex": 17, "group": 33}
+
+STATES = ["plain", "delayed", "semaphore", "mutex", "group"]
+OUTCOMES = ["given", "timed out", "aborted", "deleted"]
+TESTS = ["all set", "any set", "all clear", "any clear"]
+
+
+def named(names, number):
+    return names[number] if number < len(names) else "%d?" % number
+
+
+class Image:
+    """The bytes of an image, read by the list of columns."""
+
+    def __init__(self, data):
+        self.data = data
+        self.places = {what: (offset, width, count) for offset, width, count, what in COLUMNS}
+
+    def bytes_of(self, what, number):
+        offset, width, _ = self.places[what]
+        return self.data[offset + width * number : offset + width * (number + 1)]
+
+    def get(self, what, number=0):
+        return int.from_bytes(self.bytes_of(what, number), "little")
+
+    def count(self, what):
+        return self.places[what][2]
+
+    def task(self, what, number=0):
+        """Where none may stand: a task's number plus 1, or 0."""
+        plus_one = self.get(what, number)
+        return "-" if plus_one == 0 else str(plus_one - 1) if plus_one <= 32 else "%d?" % plus_one
+
+    def queue(self, number):
+        slots = self.bytes_of("queue", number).rstrip(b"\0")
+        return " ".join("-" if s == 0 else str(s - 1) if s <= 32 else "%d?" % s for s in slots) or "-"
+
+    def numbers(self, owner):
+        """Each number of a kind that is in use or has a field that is not 0, as it is printed."""
+        fields = [what for what in self.places if what.split()[0] == owner and " " in what]
+        for number in range(self.count(owner + " used")):
+            if self.get(owner + " used", number) == 1:
+                yield number, str(number)
+            elif any(self.get(what, number) for what in fields):
+                yield number, "%d?" % number
+            elif owner in QUEUES and self.queue(QUEUES[owner] + number) != "-":
+                yield number, "%d?" % number
+
+
+def state_of(image, number):
+    state = image.get("task state", number)
+    words = named(STATES, state)
+    if state >= 2:
+        words += " %d" % image.get("task object", number)
+    if state == 4:
+        words += " 0x%x %s" % (image.get("task mask", number), named(TESTS, image.get("task test", number)))
+        words += ", consumes" if image.get("task consume", number) else ""
+    return words
+
+
+def task_row(image, number, shown):
+    due = image.get("task due", number) if image.get("task marked", number) else "-"
+    fields = [image.get("task " + what, number) for what in ("base", "work", "suspend", "quantum", "left")]
+    return [shown] + fields + [due, state_of(image, number), named(OUTCOMES, image.get("task outcome", number))]
+
+
+def semaphore_row(image, number, shown):
+    return [shown, image.get("semaphore count", number), image.queue(QUEUES["semaphore"] + number)]
+
+
+def mutex_row(image, number, shown):
+    return [shown, image.task("mutex holder", number), image.get("mutex nesting", number), image.queue(QUEUES["mutex"] + number)]
+
+
+def group_row(image, number, shown):
+    return [shown, "0x%08x" % image.get("group flags", number), image.queue(QUEUES["group"] + number)]
+
+
+# A kind, the heads of its columns, how many of them are numbers and stand to the right, and its row.
+SECTIONS = [
+    ("task", ["task", "base", "work", "suspended", "quantum", "left", "due", "state", "last wait"], 7, task_row),
+    ("semaphore", ["semaphore", "count", "waiters"], 2, semaphore_row),
+    ("mutex", ["mutex", "holder", "nesting", "waiters"], 3, mutex_row),
+    ("group", ["group", "flags", "waiters"], 2, group_row),
+]
+
+
+def lines_of(rows, numbers):
+    widths = [max(len(str(row[c])) for row in rows) for c in range(len(rows[0]))]
+    for row in rows:
+        cells = [str(x).rjust(w) if c < numbers else str(x).ljust(w) for c, (x, w) in enumerate(zip(row, widths))]
+        yield "  ".join(cells).rstrip()
+
+
+def told(image):
+    yield "tick %d, lock depth %d, running %s" % (image.get("tick"), image.get("depth"), image.task("running"))
+    yield "able: %s" % image.queue(ABLE)
+    for owner, heads, numbers, row_of in SECTIONS:
+        rows = [row_of(image, number, shown) for number, shown in image.numbers(owner)]
+        if rows:
+            yield ""
+            yield from lines_of([heads] + rows, numbers)
+
+
+def right_size(what, size):
+    if size != SIZE:
+        raise gdb.GdbError("nonthachak: %s has %d bytes, and an image %d: another version?" % (what, size, SIZE))
+
+
+def address_of(words):
+    value = gdb.parse_and_eval(words)
+    kind = value.type.strip_typedefs()
+    if kind.code == gdb.TYPE_CODE_ARRAY:
+        right_size(words, kind.sizeof)
+        return int(value.address)
+    return int(value)
+
+
+def read_image(words):
+    address = address_of(words)
+    try:  # known where the program was compiled with -g3
+        size = int(gdb.parse_and_eval("NTK_IMAGE_SIZE"))
+    except gdb.error:
+        size = SIZE
+    right_size("NTK_IMAGE_SIZE", size)
+    return Image(bytes(gdb.selected_inferior().read_memory(address, SIZE)))
+
+
+class Nonthachak(gdb.Command):
+    """Print the kernel's table: nonthachak IMAGE.
+
+IMAGE is the array of bytes that the port has, or its address. The state is plain, delayed, or the object that the task waits for, of a
+group with the flags, the test and whether it consumes them. Queues have the most urgent first. A ? stands at what a sound table cannot
+hold: a byte beyond its values, which is printed as it stands, or a number that is not in use and has fields or waiters."""
+
+    def __init__(self):
+        super().__init__("nonthachak", gdb.COMMAND_DATA, gdb.COMPLETE_EXPRESSION)
+
+    def invoke(self, words, from_tty):
+        if not words.strip():
+            raise gdb.GdbError("nonthachak: where is the image? As in: nonthachak table")
+        try:
+            image = read_image(words)
+        except gdb.error as wrong:
+            raise gdb.GdbError("nonthachak: %s" % wrong)
+        for line in told(image):
+            print(line)
+
+
+Nonthachak()
