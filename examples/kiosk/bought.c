@@ -1,0 +1,46 @@
+/* bought.c: WRONG ON PURPOSE. The mutexes of the kernel that was bought, as it had them: a semaphore of one, a note of who holds it, and a
+ * loan of priority. It is here to show its fault beside this kernel; never take it for a port.
+ *
+ * The fault is in bought_post: the poster gets its base priority back, as if what it posts were all that it holds. Who waits for another mutex
+ * of its is forgotten, and the poster falls behind tasks that are less urgent than that waiter. */
+#include "board.h"
+#include "kiosk.h"
+
+static uint32_t holders[MUTEXES]; /* plus 1; 0 for none */
+
+static void bought_create(uint32_t mutex)
+{
+    holders[mutex] = 0;
+    service(NTK_SEMAPHORE_CREATE, BOUGHT_MUTEX + mutex, 1, 0);
+}
+
+static void bought_take(uint32_t mutex)
+{
+    uint64_t own = ntk_priority_of(board_table(), board_task());
+
+    interrupts_shut();
+    if (holders[mutex] == 0)
+        holders[mutex] = board_task() + 1;
+    else if (ntk_priority_of(board_table(), holders[mutex] - 1) > own)
+        call(NTK_CHANGE_PRIORITY, holders[mutex] - 1, (uint32_t)own, 0);
+    call(NTK_SEMAPHORE_WAIT, BOUGHT_MUTEX + mutex, 1, 0);
+    switch_task();
+    interrupts_open();
+}
+
+static void bought_post(uint32_t mutex)
+{
+    interrupts_shut();
+    holders[mutex] = (uint32_t)ntk_slot_of(board_table(), NTK_SEMAPHORE_QUEUE(BOUGHT_MUTEX + mutex), 0);
+    call(NTK_SEMAPHORE_POST, BOUGHT_MUTEX + mutex, 0, 0);
+    call(NTK_CHANGE_PRIORITY, board_task(), worker_bases[board_task()], 0); /* the fault */
+    switch_task();
+    interrupts_open();
+}
+
+static uint32_t bought_holder(uint32_t mutex)
+{
+    return holders[mutex];
+}
+
+const struct kernel bought_kernel = {"the kernel that was bought (wrong on purpose)", bought_create, bought_take, bought_post, bought_holder};
