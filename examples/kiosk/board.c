@@ -20,7 +20,7 @@ static uint32_t left_behind;    /* a task plus 1 that deleted itself, until the 
 
 static int shut;
 static unsigned nesting; /* interrupts that are under way */
-static uint32_t ticks_to_go;
+static uint32_t last_tick;
 static struct board_counts counts;
 
 const uint8_t *board_table(void)
@@ -35,27 +35,18 @@ uint32_t board_task(void)
 
 /* Nothing may run on a table that is not sound: interrupts stay shut, and the image is kept for whoever looks into it. On a board this is
  * where the watchdog is left to bite; it starts the board afresh, from zeroed bytes. */
-static void stop_board(uint8_t kind, uint32_t answer)
+static void stop_board(uint32_t answer)
 {
     shut = 1;
-    fprintf(stderr, "board: call %02X of task %u is answered %u\n", (unsigned)kind, (unsigned)board_task(), (unsigned)answer);
+    fprintf(stderr, "board: a call while task %u has the processor is answered %u: %s\n", (unsigned)board_task(), (unsigned)answer,
+            ntk_answer_name(answer));
     exit(1);
 }
 
-static uint32_t step(uint8_t kind, const uint32_t n[6])
+void taken(struct ntk_outcome o)
 {
-    struct ntk_outcome o = ntk_step(kind, n[0], n[1], n[2], n[3], n[4], n[5], table, sizeof table);
-
     if (o.answer != NTK_DONE && o.answer != NTK_BLOCKS)
-        stop_board(kind, o.answer);
-    return o.answer;
-}
-
-uint32_t call(uint8_t kind, uint32_t a, uint32_t b, uint32_t c)
-{
-    uint32_t numbers[6] = {a, b, c, 0, 0, 0};
-
-    return step(kind, numbers);
+        stop_board(o.answer);
 }
 
 void interrupts_shut(void)
@@ -91,51 +82,36 @@ static void switch_to(uint32_t runs)
     free_left_stack();
 }
 
-void switch_task(void)
+uint8_t *enter(void)
 {
-    switch_to(ntk_running(table));
+    interrupts_shut();
+    return table;
 }
 
-static enum ntk_wait serve(uint8_t kind, const uint32_t numbers[6])
+enum ntk_wait leave(struct ntk_outcome o)
 {
     uint32_t task = board_task();
     enum ntk_wait wait = NTK_GIVEN;
 
-    interrupts_shut();
-    if (step(kind, numbers) == NTK_BLOCKS) {
-        switch_task();
+    taken(o);
+    switch_to(o.runs);
+    if (o.answer == NTK_BLOCKS)
         wait = ntk_wait_of(table, task); /* this task runs again: its wait is over */
-    } else {
-        switch_task();
-    }
     interrupts_open();
     return wait;
-}
-
-enum ntk_wait service(uint8_t kind, uint32_t a, uint32_t b, uint32_t c)
-{
-    uint32_t numbers[6] = {a, b, c, 0, 0, 0};
-
-    return serve(kind, numbers);
-}
-
-enum ntk_wait service_flags(uint32_t group, uint32_t limit, uint32_t mask, enum ntk_test test, uint32_t consume)
-{
-    uint32_t numbers[6] = {group, 1, limit, mask, (uint32_t)test, consume};
-
-    return serve(NTK_GROUP_WAIT, numbers);
 }
 
 /* Where a task's context begins. */
 static void begin(void)
 {
+    struct ntk_outcome o;
+
     free_left_stack();
     interrupts_open();
     bodies[board_task()]();
-    interrupts_shut();
-    call(NTK_TASK_DELETE, board_task(), 0, 0);
+    o = ntk_task_delete(enter(), board_task());
     left_behind = on_processor;
-    switch_task();
+    leave(o);
 }
 
 void board_create(uint32_t task, uint32_t base, void (*body)(void))
@@ -153,23 +129,17 @@ void board_create(uint32_t task, uint32_t base, void (*body)(void))
     made->uc_stack.ss_size = STACK_BYTES;
     made->uc_link = NULL;
     makecontext(made, begin, 0);
-    service(NTK_TASK_CREATE, task, base, 0);
+    leave(ntk_task_create(enter(), task, base, 0));
 }
 
 /* The processor shuts interrupts on its way in. */
-void interrupt_begins(void)
+uint8_t *interrupt_begins(void)
 {
     interrupts_shut();
     counts.interrupts++;
     if (nesting++ > 0)
         counts.nested++;
-}
-
-void call_by_interrupt(uint8_t kind, uint32_t a, uint32_t b, uint32_t c)
-{
-    call((uint8_t)(kind | NTK_INTERRUPT), a, b, c);
-    if (kind == NTK_TICK)
-        ticks_to_go--;
+    return table;
 }
 
 /* The switch is put off to here: an inner interrupt goes back to the handler that it came in, whoever is to run. What the interrupted task had
@@ -177,7 +147,7 @@ void call_by_interrupt(uint8_t kind, uint32_t a, uint32_t b, uint32_t c)
 void interrupt_ends(void)
 {
     if (--nesting == 0)
-        switch_to(ticks_to_go > 0 ? ntk_running(table) : 0);
+        switch_to(ntk_tick_count(table) < last_tick ? ntk_running(table) : 0);
     interrupts_open();
 }
 
@@ -214,9 +184,9 @@ void board_run(void (*first)(void), void (*unit)(void), uint32_t ticks)
     memset(&counts, 0, sizeof counts);
     on_processor = left_behind = 0;
     nesting = 0;
-    ticks_to_go = ticks;
+    last_tick = ticks;
     board_create(FIRST_TASK, 0, first);
-    while (ticks_to_go > 0)
+    while (ntk_tick_count(table) < last_tick)
         unit();
 }
 

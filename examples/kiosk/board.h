@@ -19,22 +19,21 @@ uint32_t board_task(void);
 /* A task is created with its stack and its context. Where its body returns, it deletes itself. */
 void board_create(uint32_t task, uint32_t base, void (*body)(void));
 
-/* A service call of the task on the processor, with interrupts shut: the call, then the switch. A wait gives what it came to when the task
- * runs again; every other call NTK_GIVEN. Any other answer than 0 and 14 stops the board: no call of this example is to be refused. */
-enum ntk_wait service(uint8_t kind, uint32_t a, uint32_t b, uint32_t c);
-enum ntk_wait service_flags(uint32_t group, uint32_t limit, uint32_t mask, enum ntk_test test, uint32_t consume);
+/* A service call of the task on the processor goes between these two, leave(ntk_mutex_post(enter(), mutex)): `enter` shuts interrupts and lends
+ * the image to the call; `leave` makes the switch and opens them. A wait gives what it came to when the task runs again; every other call
+ * NTK_GIVEN. Where several calls are one service, `taken` has the outcome of each, and `leave` that of the last. */
+uint8_t *enter(void);
+enum ntk_wait leave(struct ntk_outcome o);
 
-/* The parts of a service call, for one that is made of several calls: between shut and switch as many as it takes. */
+/* Any other answer than 0 and 14 stops the board: no call of this example is to be refused. */
+void taken(struct ntk_outcome o);
+
+/* An interrupt's handler begins and ends so; between them it makes its calls on the image that it is lent, any number, by the functions with
+ * _isr, each `taken`. The last to end of those that are nested makes the switch. A handler may open interrupts between its calls. */
+uint8_t *interrupt_begins(void);
+void interrupt_ends(void);
 void interrupts_shut(void);
 void interrupts_open(void);
-uint32_t call(uint8_t kind, uint32_t a, uint32_t b, uint32_t c);
-void switch_task(void);
-
-/* An interrupt's handler begins and ends so; between them it makes its calls by call_by_interrupt, any number. The last to end of those that
- * are nested makes the switch. */
-void interrupt_begins(void);
-void call_by_interrupt(uint8_t kind, uint32_t a, uint32_t b, uint32_t c);
-void interrupt_ends(void);
 
 /* An interrupt comes by `entry` where a task (or the idle processor) has a value in each register. */
 void raise_interrupt(void (*entry)(void));

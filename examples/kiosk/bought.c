@@ -11,31 +11,28 @@ static uint32_t holders[MUTEXES]; /* plus 1; 0 for none */
 static void bought_create(uint32_t mutex)
 {
     holders[mutex] = 0;
-    service(NTK_SEMAPHORE_CREATE, BOUGHT_MUTEX + mutex, 1, 0);
+    leave(ntk_semaphore_create(enter(), BOUGHT_MUTEX + mutex, 1));
 }
 
 static void bought_take(uint32_t mutex)
 {
-    uint64_t own = ntk_priority_of(board_table(), board_task());
+    uint8_t *image = enter();
+    uint64_t own = ntk_priority_of(image, board_task());
 
-    interrupts_shut();
     if (holders[mutex] == 0)
         holders[mutex] = board_task() + 1;
-    else if (ntk_priority_of(board_table(), holders[mutex] - 1) > own)
-        call(NTK_CHANGE_PRIORITY, holders[mutex] - 1, (uint32_t)own, 0);
-    call(NTK_SEMAPHORE_WAIT, BOUGHT_MUTEX + mutex, 1, 0);
-    switch_task();
-    interrupts_open();
+    else if (ntk_priority_of(image, holders[mutex] - 1) > own)
+        taken(ntk_change_priority(image, holders[mutex] - 1, (uint32_t)own));
+    leave(ntk_semaphore_wait(image, BOUGHT_MUTEX + mutex, NTK_MAY_BLOCK, NTK_FOREVER));
 }
 
 static void bought_post(uint32_t mutex)
 {
-    interrupts_shut();
-    holders[mutex] = (uint32_t)ntk_slot_of(board_table(), NTK_SEMAPHORE_QUEUE(BOUGHT_MUTEX + mutex), 0);
-    call(NTK_SEMAPHORE_POST, BOUGHT_MUTEX + mutex, 0, 0);
-    call(NTK_CHANGE_PRIORITY, board_task(), worker_bases[board_task()], 0); /* the fault */
-    switch_task();
-    interrupts_open();
+    uint8_t *image = enter();
+
+    holders[mutex] = (uint32_t)ntk_slot_of(image, NTK_SEMAPHORE_QUEUE(BOUGHT_MUTEX + mutex), 0);
+    taken(ntk_semaphore_post(image, BOUGHT_MUTEX + mutex));
+    leave(ntk_change_priority(image, board_task(), worker_bases[board_task()])); /* the fault */
 }
 
 static uint32_t bought_holder(uint32_t mutex)

@@ -47,9 +47,10 @@ void card_ask(void)
 
 void card_interrupt(void)
 {
-    interrupt_begins();
+    uint8_t *image = interrupt_begins();
+
     card_due = NOTHING;
-    call_by_interrupt(NTK_GROUP_POST, SIGNS, CARD, 1);
+    taken(ntk_group_post_isr(image, SIGNS, CARD, NTK_SET));
     interrupt_ends();
 }
 
@@ -57,15 +58,16 @@ void card_interrupt(void)
  * midst of the clock's handler. */
 void clock_interrupt(void)
 {
-    interrupt_begins();
+    uint8_t *image = interrupt_begins();
+
     now++;
-    call_by_interrupt(NTK_TICK, 0, 0, 0);
+    taken(ntk_tick_isr(image));
     if (now % FRAME == 0) {
         screening->shown[now / FRAME - 1] = handed == now / FRAME - 1;
-        call_by_interrupt(NTK_GROUP_POST, SIGNS, SYNC, 1);
+        taken(ntk_group_post_isr(image, SIGNS, SYNC, NTK_SET));
     }
     if (now % (FRAME * BLOCK) == CLOCK_AT)
-        call_by_interrupt(NTK_GROUP_POST, SIGNS, CLOCK, 1);
+        taken(ntk_group_post_isr(image, SIGNS, CLOCK, NTK_SET));
     if (card_due == now && blocks % 2 == 0) {
         interrupts_open();
         raise_interrupt(card_entry);

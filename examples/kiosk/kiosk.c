@@ -19,17 +19,17 @@ static int telling;               /* from the first turn until the output has th
 
 static void create_mutex(uint32_t mutex)
 {
-    service(NTK_MUTEX_CREATE, mutex, 0, 0);
+    leave(ntk_mutex_create(enter(), mutex));
 }
 
 static void take_mutex(uint32_t mutex)
 {
-    service(NTK_MUTEX_WAIT, mutex, 1, 0);
+    leave(ntk_mutex_wait(enter(), mutex, NTK_MAY_BLOCK, NTK_FOREVER));
 }
 
 static void post_mutex(uint32_t mutex)
 {
-    service(NTK_MUTEX_POST, mutex, 0, 0);
+    leave(ntk_mutex_post(enter(), mutex));
 }
 
 static uint32_t holder_of(uint32_t mutex)
@@ -72,6 +72,12 @@ static void post(uint32_t mutex)
     kernel->post(mutex);
 }
 
+/* All of these flags, which are consumed. */
+static enum ntk_wait wait_for(uint32_t flags, uint32_t limit)
+{
+    return leave(ntk_group_wait(enter(), SIGNS, NTK_MAY_BLOCK, limit, flags, NTK_ALL_SET, NTK_CONSUME));
+}
+
 /* The most urgent: hands the screen a frame in each frame's time, if it is decoded, and gives up those whose time has passed. */
 static void output(void)
 {
@@ -84,8 +90,8 @@ static void output(void)
             screen_hand(frame_due());
         post(SCREEN);
         for (; gone < frame_due(); gone++)
-            service(NTK_SEMAPHORE_POST, ROOM, 0, 0);
-        service_flags(SIGNS, 0, SYNC, NTK_ALL_SET, 1);
+            leave(ntk_semaphore_post(enter(), ROOM));
+        wait_for(SYNC, NTK_FOREVER);
     }
 }
 
@@ -94,11 +100,11 @@ static void reader(void)
 {
     for (;;) {
         card_ask();
-        service_flags(SIGNS, 0, CARD | CLOCK, NTK_ALL_SET, 1);
+        wait_for(CARD | CLOCK, NTK_FOREVER);
         take(FRAMES);
         work(1);
         post(FRAMES);
-        service(NTK_SEMAPHORE_POST, BLOCKS, 0, 0);
+        leave(ntk_semaphore_post(enter(), BLOCKS));
     }
 }
 
@@ -106,7 +112,7 @@ static void reader(void)
 static void keeper(void)
 {
     for (;;) {
-        if (service_flags(SIGNS, LAMP_LIMIT, TURN, NTK_ALL_SET, 1) == NTK_TIMED_OUT)
+        if (wait_for(TURN, LAMP_LIMIT) == NTK_TIMED_OUT)
             work(1);
         else
             work(LOG_WORK);
@@ -120,7 +126,7 @@ static void turn(uint32_t frame)
     take(FRAMES);
     take(SCREEN);
     work(STORE_WORK);
-    service(NTK_GROUP_POST, SIGNS, TURN, 1);
+    leave(ntk_group_post(enter(), SIGNS, TURN, NTK_SET));
     record_first_post(ticks_now());
     post(FRAMES);
     work(SCREEN_WORK);
@@ -133,11 +139,11 @@ static void decoder(void)
     uint32_t frame;
 
     for (frame = AHEAD;; frame++) {
-        service(NTK_SEMAPHORE_WAIT, ROOM, 1, 0);
+        leave(ntk_semaphore_wait(enter(), ROOM, NTK_MAY_BLOCK, NTK_FOREVER));
         if (frame % FILM == 0)
             turn(frame);
         if (frame % BLOCK == 0)
-            service(NTK_SEMAPHORE_WAIT, BLOCKS, 1, 0);
+            leave(ntk_semaphore_wait(enter(), BLOCKS, NTK_MAY_BLOCK, NTK_FOREVER));
         work(1);
         take(FRAMES);
         decoded = frame + 1;
@@ -151,9 +157,9 @@ static void start(void)
     static void (*const bodies[WORKERS])(void) = {output, reader, keeper, decoder};
     uint32_t i;
 
-    service(NTK_GROUP_CREATE, SIGNS, 0, 0);
-    service(NTK_SEMAPHORE_CREATE, BLOCKS, 1, 0);
-    service(NTK_SEMAPHORE_CREATE, ROOM, 0, 0);
+    leave(ntk_group_create(enter(), SIGNS, 0));
+    leave(ntk_semaphore_create(enter(), BLOCKS, 1));
+    leave(ntk_semaphore_create(enter(), ROOM, 0));
     for (i = 0; i < MUTEXES; i++)
         kernel->create(i);
     for (i = 0; i < WORKERS; i++)

@@ -7,25 +7,6 @@
 #include "tape.h"
 #include "tell.h"
 
-static const char *const answers[] = {
-    [NTK_DONE] = "done",
-    [NTK_BEYOND_RANGE] = "beyond range",
-    [NTK_NOT_IN_USE] = "not in use",
-    [NTK_IN_USE] = "in use",
-    [NTK_BAD_VALUE] = "bad value",
-    [NTK_BY_INTERRUPT] = "by interrupt",
-    [NTK_NONE_RUNNING] = "none running",
-    [NTK_WHILE_LOCKED] = "while locked",
-    [NTK_NOTHING_TO_TAKE] = "nothing to take",
-    [NTK_NOT_ITS_HOLDER] = "not its holder",
-    [NTK_TOO_DEEP] = "too deep",
-    [NTK_COUNT_FULL] = "count full",
-    [NTK_NOTHING_TO_UNDO] = "nothing to undo",
-    [NTK_STILL_NEEDED] = "still needed",
-    [NTK_BLOCKS] = "blocks",
-    [NTK_NOT_SOUND] = "not sound",
-};
-
 /* Fills up to a column, and leaves two spaces in any case: a column is told from the next by them. */
 static void pad(struct line *line, size_t column)
 {
@@ -63,7 +44,6 @@ static void write_heading(FILE *out)
 static void write_call(FILE *out, const struct reel *reel, const struct call *call, uint32_t caller, struct ntk_outcome outcome)
 {
     struct line line = {0};
-    int named = outcome.answer < sizeof answers / sizeof *answers;
 
     line_add(&line, "%6llu", (unsigned long long)reel->calls);
     pad(&line, CALLER);
@@ -74,7 +54,7 @@ static void write_call(FILE *out, const struct reel *reel, const struct call *ca
     pad(&line, WORDS);
     call_words(&line, call);
     pad(&line, ANSWER);
-    line_add(&line, "%lu %s", (unsigned long)outcome.answer, named ? answers[outcome.answer] : "?");
+    line_add(&line, "%lu %s", (unsigned long)outcome.answer, ntk_answer_name(outcome.answer));
     pad(&line, RUNS);
     add_task(&line, outcome.runs, "none");
     write_line(out, line.text);
