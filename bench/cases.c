@@ -6,6 +6,37 @@
 
 enum { MOST_CASES = 1200, SAMPLES = 10 };
 
+static const struct kind all_kinds[] = {
+    {NTK_TASK_CREATE, "task create"},
+    {NTK_TASK_DELETE, "task delete"},
+    {NTK_CHANGE_PRIORITY, "change priority"},
+    {NTK_SUSPEND, "suspend"},
+    {NTK_RESUME, "resume"},
+    {NTK_YIELD, "yield"},
+    {NTK_DELAY, "delay"},
+    {NTK_DELAY_RESUME, "delay resume"},
+    {NTK_LOCK, "lock"},
+    {NTK_UNLOCK, "unlock"},
+    {NTK_TICK, "tick"},
+    {NTK_SEMAPHORE_CREATE, "semaphore create"},
+    {NTK_SEMAPHORE_DELETE, "semaphore delete"},
+    {NTK_SEMAPHORE_WAIT, "semaphore wait"},
+    {NTK_SEMAPHORE_POST, "semaphore post"},
+    {NTK_SEMAPHORE_ABORT, "semaphore abort"},
+    {NTK_MUTEX_CREATE, "mutex create"},
+    {NTK_MUTEX_DELETE, "mutex delete"},
+    {NTK_MUTEX_WAIT, "mutex wait"},
+    {NTK_MUTEX_POST, "mutex post"},
+    {NTK_MUTEX_ABORT, "mutex abort"},
+    {NTK_GROUP_CREATE, "group create"},
+    {NTK_GROUP_DELETE, "group delete"},
+    {NTK_GROUP_WAIT, "group wait"},
+    {NTK_GROUP_POST, "group post"},
+    {NTK_GROUP_ABORT, "group abort"},
+};
+_Static_assert(sizeof all_kinds / sizeof all_kinds[0] == KINDS, "a row for each kind");
+const struct kind *const kinds = all_kinds;
+
 struct one_case *cases;
 unsigned case_count;
 

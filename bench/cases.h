@@ -4,6 +4,14 @@
 
 #include "sequences.h"
 
+/* The kinds of calls, by name. */
+struct kind {
+    uint8_t kind;
+    const char *name;
+};
+enum { KINDS = 26 };
+extern const struct kind *const kinds;
+
 extern struct one_case *cases;
 extern unsigned case_count;
 
