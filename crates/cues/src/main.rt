@@ -1,5 +1,10 @@
 // A cue player over `queue`, with no kernel: cues stand in a queue by their levels, the smallest first; one changes its level and
-// moves; a few calls are refused; then all are played in order.
+// moves; a few calls are refused; then all are played in order. No contract can say what is printed: what is played is taken out into a
+// slice first, and that is proved to be in order.
+ghost use mathlib.Core.Path.{_≡_};
+ghost use lib.ListN.{getD, set};
+ghost use Rattle.queue.specs.Answers.{inserted, moveAnswer, movedIn};
+ghost use Rattle.cues.specs.Evening.{PlayedInOrder};
 use queue::Answer;
 use queue::Head;
 use streams::Output;
@@ -15,7 +20,9 @@ fn say_answer(output: Output, a: Answer) -> Output {
     }
 }
 
-fn level_of(levels: &[u8], cue: u8) -> u8 {
+fn level_of(levels: &[u8], cue: u8) -> u8
+    ensures { λ r. ⌜ r ≡ getD (now (levels .entry)) cue 0 ⌝ }
+{
     let i = cue as usize;
     if i < levels.len() {
         return levels[i];
@@ -23,52 +30,81 @@ fn level_of(levels: &[u8], cue: u8) -> u8 {
     0
 }
 
-fn line_up(output: Output, cues: &mut [u8], levels: &[u8], cue: u8) -> Output {
+fn set_level(levels: &mut [u8], cue: u8, level: u8)
+    ensures { λ _. ⌜ now (levels .exit) ≡ set (now (levels .entry)) cue level ⌝ }
+{
+    let i = cue as usize;
+    if i < levels.len() {
+        levels[i] = level;
+    }
+}
+
+// A cue lines up: `linesUp` of an evening.
+fn line_up(output: Output, cues: &mut [u8], levels: &[u8], cue: u8) -> Output
+    ensures { λ _. ⌜ now (cues .exit) ≡ inserted (now (levels .entry)) cue (now (cues .entry)) ⌝ }
+{
     let begun = output.say(b"cue ").say_number(cue as u64).say(b": ");
     say_answer(begun, queue::insert(cues, levels, cue))
 }
 
-// What has become of the output, and whether there was a cue to play.
-struct Played {
-    output: Output,
-    was_one: bool,
+// A cue changes its level, and where it stands in the queue it moves: `changes` of an evening.
+fn change_level(cues: &mut [u8], levels: &mut [u8], cue: u8, level: u8) -> Answer
+    ensures { λ r. ⌜ (now (levels .exit) ≡ set (now (levels .entry)) cue level) × (r ≡ moveAnswer (set (now (levels .entry)) cue level) cue (now (cues .entry))) × (now (cues .exit) ≡ movedIn (set (now (levels .entry)) cue level) cue (now (cues .entry))) ⌝ }
+{
+    set_level(levels, cue, level);
+    queue::move_behind(cues, levels, cue)
 }
 
-// Plays the first cue and takes it out of the queue.
-fn play_first(output: Output, cues: &mut [u8], levels: &[u8]) -> Played {
-    let head = queue::first(cues);
-    match head {
-        Head::Is(cue) => {
-            let level = level_of(levels, cue);
-            queue::remove(cues, cue);
-            Played {
-                output: output
-                    .say(b"playing cue ")
-                    .say_number(cue as u64)
-                    .say(b" of level ")
-                    .say_number(level as u64)
-                    .say(b"\n"),
-                was_one: true,
+fn say_change(output: Output, cue: u8, level: u8, answer: Answer) -> Output {
+    let begun = output
+        .say(b"cue ")
+        .say_number(cue as u64)
+        .say(b" to level ")
+        .say_number(level as u64)
+        .say(b": ");
+    say_answer(begun, answer)
+}
+
+// Takes the first cue out again and again, as long as there is one and there is room, and writes down which it was. Answers how many.
+// They come by their levels, and among equals in the order in which they came.
+fn play_out(cues: &mut [u8], out: &mut [u8]) -> usize
+    ensures { λ r. ⌜ PlayedInOrder (now (cues .entry)) (now (out .entry)) r (now (cues .exit)) (now (out .exit)) ⌝ }
+{
+    let mut n = 0;
+    while n < out.len() {
+        let head = queue::first(cues);
+        match head {
+            Head::Is(cue) => {
+                out[n] = cue;
+                queue::remove(cues, cue);
+                n += 1;
+            }
+            Head::Nobody => {
+                return n;
             }
         }
-        Head::Nobody => Played {
-            output: output,
-            was_one: false,
-        },
     }
+    n
 }
 
-// Plays until no cue is left: each turn takes one out, so there are no more turns than slots.
-fn play_all(output: Output, cues: &mut [u8], levels: &[u8]) -> Output {
+fn say_cue(output: Output, cue: u8, levels: &[u8]) -> Output {
+    let level = level_of(levels, cue);
+    output
+        .say(b"playing cue ")
+        .say_number(cue as u64)
+        .say(b" of level ")
+        .say_number(level as u64)
+        .say(b"\n")
+}
+
+// Says which cues were played.
+fn say_played(output: Output, played: &[u8], levels: &[u8]) -> Output {
     let mut printed = output;
-    let mut turns = cues.len();
-    while 0 < turns {
-        let played = play_first(printed, cues, levels);
-        printed = played.output;
-        if !played.was_one {
-            return printed;
-        }
-        turns -= 1;
+    let mut i = 0;
+    while i < played.len() {
+        let cue = played[i];
+        printed = say_cue(printed, cue, levels);
+        i += 1;
     }
     printed
 }
@@ -76,6 +112,7 @@ fn play_all(output: Output, cues: &mut [u8], levels: &[u8]) -> Output {
 fn main() {
     let mut levels: [u8; 7] = [3, 1, 2, 1, 3, 2, 1];
     let mut cues: [u8; 6] = [0; 6];
+    let mut played: [u8; 6] = [0; 6];
     let mut output = Output::start();
     output = line_up(output, &mut cues, &levels, 0);
     output = line_up(output, &mut cues, &levels, 1);
@@ -84,15 +121,16 @@ fn main() {
     output = line_up(output, &mut cues, &levels, 4);
     output = line_up(output, &mut cues, &levels, 3);
     output = line_up(output, &mut cues, &levels, 9);
-    levels[4] = 1;
-    output = output.say(b"cue 4 to level 1: ");
-    output = say_answer(output, queue::move_behind(&mut cues, &levels, 4));
-    output = output.say(b"cue 5 to level 1: ");
-    output = say_answer(output, queue::move_behind(&mut cues, &levels, 5));
+    output = say_change(output, 4, 1, change_level(&mut cues, &mut levels, 4, 1));
+    output = say_change(output, 5, 2, change_level(&mut cues, &mut levels, 5, 2));
     output = line_up(output, &mut cues, &levels, 5);
     output = line_up(output, &mut cues, &levels, 6);
     if queue::is_ordered(&cues, &levels) {
         output = output.say(b"in order\n");
     }
-    play_all(output, &mut cues, &levels).end(b"cues: cannot write");
+    let n = play_out(&mut cues, &mut played);
+    if n <= played.len() {
+        output = say_played(output, &played[0..n], &levels);
+    }
+    output.end(b"cues: cannot write");
 }

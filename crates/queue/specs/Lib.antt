@@ -9,3 +9,4 @@ pub mod Counts
 pub mod Keeps
 pub mod Stable
 pub mod Checked
+pub mod Changes

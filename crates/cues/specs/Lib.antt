@@ -1,0 +1,3 @@
+pub mod Plays
+pub mod Evening
+pub mod InOrder
