@@ -17,8 +17,8 @@ extern "C" {
 
 /* The version of this header; ntk_version() is that of the archive. A port is built right where the two are the same. */
 #define NTK_VERSION_MAJOR 1
-#define NTK_VERSION_MINOR 1
-#define NTK_VERSION_PATCH 1
+#define NTK_VERSION_MINOR 2
+#define NTK_VERSION_PATCH 0
 #define NTK_VERSION (NTK_VERSION_MAJOR * 10000u + NTK_VERSION_MINOR * 100u + NTK_VERSION_PATCH)
 
 uint32_t ntk_version(void);
@@ -186,6 +186,72 @@ enum ntk_state { NTK_PLAIN = 0, NTK_DELAYED = 1, NTK_WAITS_SEMAPHORE = 2, NTK_WA
  * not be writable. Call it with interrupts shut, or on a copy. */
 uint64_t ntk_read(uint32_t field, uint32_t number, const uint8_t *image, size_t length);
 
+/* The standing rules, for ntk_why: what each asks, and which numbers it has, as with ntk_read. docs/IMAGE.md has the list in full. Later numbers come
+ * between these. */
+enum ntk_rule {
+    NTK_RULE_NONE = 0x00,               /* none is broken: the table is sound            0                 */
+    NTK_RULE_TASK_USED = 0x01,          /* in use is 0 or 1                              task 0..31        */
+    NTK_RULE_TASK_BASE = 0x02,          /* base priority 0..62                           task 0..31        */
+    NTK_RULE_TASK_WORK = 0x03,          /* working priority 0..62                        task 0..31        */
+    NTK_RULE_TASK_SUSPEND = 0x04,       /* suspend count 0..250                          task 0..31        */
+    NTK_RULE_TASK_QUANTUM = 0x05,       /* quantum 0..65535; no bytes break it           task 0..31        */
+    NTK_RULE_TASK_LEFT = 0x06,          /* what is left 0..65535; no bytes break it      task 0..31        */
+    NTK_RULE_TASK_STATE = 0x07,         /* state 0..4                                    task 0..31        */
+    NTK_RULE_TASK_OBJECT = 0x08,        /* object of its kind; 0 where it waits for none task 0..31        */
+    NTK_RULE_TASK_MARKED = 0x09,        /* has a mark is 0 or 1                          task 0..31        */
+    NTK_RULE_TASK_DUE = 0x0A,           /* due mark 0 where it has none                  task 0..31        */
+    NTK_RULE_TASK_OUTCOME = 0x0B,       /* outcome 0..3                                  task 0..31        */
+    NTK_RULE_TASK_MASK = 0x0C,          /* mask 0 where it waits for no flags            task 0..31        */
+    NTK_RULE_TASK_TEST = 0x0D,          /* test 0..3; 0 where it waits for no flags      task 0..31        */
+    NTK_RULE_TASK_CONSUME = 0x0E,       /* consume 0 or 1; 0 where it waits for no flags task 0..31        */
+    NTK_RULE_TASK_FREE = 0x10,          /* free, its fields are 0                        task 0..31        */
+    NTK_RULE_TASK_PLAIN_MARK = 0x11,    /* plain, it has no due mark                     task 0..31        */
+    NTK_RULE_TASK_DELAY_MARK = 0x12,    /* delayed, it has a due mark                    task 0..31        */
+    NTK_RULE_TASK_LEFT_MOST = 0x13,     /* what is left is at most the quantum           task 0..31        */
+    NTK_RULE_TASK_ASKS = 0x14,          /* waiting for flags, its mask is not 0          task 0..31        */
+    NTK_RULE_SEMAPHORE_USED = 0x20,     /* in use is 0 or 1                              semaphore 0..15   */
+    NTK_RULE_SEMAPHORE_COUNTS = 0x21,   /* count 0..4294967295; no bytes break it        semaphore 0..15   */
+    NTK_RULE_SEMAPHORE_FREE = 0x22,     /* free, its fields are 0                        semaphore 0..15   */
+    NTK_RULE_MUTEX_USED = 0x30,         /* in use is 0 or 1                              mutex 0..15       */
+    NTK_RULE_MUTEX_HOLDER = 0x31,       /* holder is a task or none                      mutex 0..15       */
+    NTK_RULE_MUTEX_NESTING = 0x32,      /* nesting 0..250                                mutex 0..15       */
+    NTK_RULE_MUTEX_FREE = 0x33,         /* free, its fields are 0                        mutex 0..15       */
+    NTK_RULE_MUTEX_UNHELD = 0x34,       /* not held, its nesting is 0                    mutex 0..15       */
+    NTK_RULE_MUTEX_HELD = 0x35,         /* held, its nesting is not 0                    mutex 0..15       */
+    NTK_RULE_GROUP_USED = 0x40,         /* in use is 0 or 1                              group 0..7        */
+    NTK_RULE_GROUP_FLAGS = 0x41,        /* flags 0..4294967295; no bytes break it        group 0..7        */
+    NTK_RULE_GROUP_FREE = 0x42,         /* free, its fields are 0                        group 0..7        */
+    NTK_RULE_WAIT_USED = 0x80,          /* what it waits for is in use                   task 0..31        */
+    NTK_RULE_WAIT_NOTHING = 0x81,       /* what it waits for has nothing to take         task 0..31        */
+    NTK_RULE_WAIT_APART = 0x82,         /* it does not hold what it waits for            task 0..31        */
+    NTK_RULE_HOLDER_USED = 0x83,        /* its holder is in use                          mutex 0..15       */
+    NTK_RULE_QUEUE_PLACES = 0x90,       /* once in its queue, and in no other            NTK_SLOT(q, task) */
+    NTK_RULE_QUEUE_NOTHING_ELSE = 0x91, /* a task or none                                NTK_SLOT(q, j)    */
+    NTK_RULE_QUEUE_ORDERED = 0x92,      /* it may stand before the next slot             NTK_SLOT(q, j)    */
+    NTK_RULE_TASK_WORKED = 0xA0,        /* working priority as worked out afresh         task 0..31        */
+    NTK_RULE_TASK_NOT_DUE = 0xA1,       /* its due mark is not the tick counter          task 0..31        */
+    NTK_RULE_TICK_RANGE = 0xB0,         /* tick counter 0..4294967295; no bytes break it 0                 */
+    NTK_RULE_DEPTH_RANGE = 0xB1,        /* lock depth 0..250                             0                 */
+    NTK_RULE_RUNNING_RANGE = 0xB2,      /* the running task is a task or none            0                 */
+    NTK_RULE_RUNNING_FIRST = 0xB3,      /* at lock depth 0 the first able task runs      0                 */
+    NTK_RULE_RUNNING_ABLE = 0xB4,       /* at a greater one an able task runs, or none   0                 */
+    NTK_RULE_WRONG_LENGTH = 0xFF        /* the length is not NTK_IMAGE_SIZE              0                 */
+};
+
+/* The queue, and the slot or task, that the number of a rule on the queues names: the other way from NTK_SLOT. */
+#define NTK_QUEUE_AT(number) ((number) / NTK_TASKS)
+#define NTK_SLOT_AT(number) ((number) % NTK_TASKS)
+
+/* `rule` is the first standing rule that is broken, `number` the first record that breaks it; 0 and 0 where the table is sound. */
+struct ntk_reason {
+    uint32_t rule;
+    uint32_t number;
+};
+
+/* Why the image of `length` bytes at `image` gets NTK_NOT_SOUND: NTK_RULE_NONE exactly where it does not. Any bytes and length are taken, and none is
+ * changed: it must be as for ntk_read. It tests each rule by itself, and takes longer than a call: it is for a port that has stopped, and for tools. */
+struct ntk_reason ntk_why(const uint8_t *image, size_t length);
+
 /* The same of an image of NTK_IMAGE_SIZE bytes, for what a port asks most. */
 
 #ifdef __cplusplus
@@ -264,6 +330,61 @@ static inline const char *ntk_answer_name(uint32_t answer)
     case NTK_STILL_NEEDED: return "still needed";
     case NTK_BLOCKS: return "blocks";
     case NTK_NOT_SOUND: return "not sound";
+    default: return "unknown";
+    }
+}
+
+/* What is wrong where a rule is broken, in words. "unknown" for a number that is none. */
+static inline const char *ntk_rule_name(uint32_t rule)
+{
+    switch (rule) {
+    case NTK_RULE_NONE: return "sound";
+    case NTK_RULE_TASK_USED: return "in use is neither 0 nor 1";
+    case NTK_RULE_TASK_BASE: return "base priority above 62";
+    case NTK_RULE_TASK_WORK: return "working priority above 62";
+    case NTK_RULE_TASK_SUSPEND: return "suspend count above 250";
+    case NTK_RULE_TASK_QUANTUM: return "quantum above 65535";
+    case NTK_RULE_TASK_LEFT: return "what is left of the quantum above 65535";
+    case NTK_RULE_TASK_STATE: return "state above 4";
+    case NTK_RULE_TASK_OBJECT: return "object that its state does not have";
+    case NTK_RULE_TASK_MARKED: return "has a due mark is neither 0 nor 1";
+    case NTK_RULE_TASK_DUE: return "due mark where it has none";
+    case NTK_RULE_TASK_OUTCOME: return "outcome above 3";
+    case NTK_RULE_TASK_MASK: return "mask where it waits for no flags";
+    case NTK_RULE_TASK_TEST: return "test above 3, or one where it waits for no flags";
+    case NTK_RULE_TASK_CONSUME: return "consume above 1, or 1 where it waits for no flags";
+    case NTK_RULE_TASK_FREE: return "free, and not all of its fields are 0";
+    case NTK_RULE_TASK_PLAIN_MARK: return "plain, and it has a due mark";
+    case NTK_RULE_TASK_DELAY_MARK: return "delayed, and it has no due mark";
+    case NTK_RULE_TASK_LEFT_MOST: return "more is left than its quantum";
+    case NTK_RULE_TASK_ASKS: return "waits for flags with a mask of 0";
+    case NTK_RULE_SEMAPHORE_USED: return "in use is neither 0 nor 1";
+    case NTK_RULE_SEMAPHORE_COUNTS: return "count above 4294967295";
+    case NTK_RULE_SEMAPHORE_FREE: return "free, and not all of its fields are 0";
+    case NTK_RULE_MUTEX_USED: return "in use is neither 0 nor 1";
+    case NTK_RULE_MUTEX_HOLDER: return "holder is no task";
+    case NTK_RULE_MUTEX_NESTING: return "nesting above 250";
+    case NTK_RULE_MUTEX_FREE: return "free, and not all of its fields are 0";
+    case NTK_RULE_MUTEX_UNHELD: return "not held, and its nesting is not 0";
+    case NTK_RULE_MUTEX_HELD: return "held, and its nesting is 0";
+    case NTK_RULE_GROUP_USED: return "in use is neither 0 nor 1";
+    case NTK_RULE_GROUP_FLAGS: return "flags above 4294967295";
+    case NTK_RULE_GROUP_FREE: return "free, and not all of its fields are 0";
+    case NTK_RULE_WAIT_USED: return "waits for an object that is not in use";
+    case NTK_RULE_WAIT_NOTHING: return "waits for an object that has something to take";
+    case NTK_RULE_WAIT_APART: return "waits for the mutex that it holds";
+    case NTK_RULE_HOLDER_USED: return "its holder is not in use";
+    case NTK_RULE_QUEUE_PLACES: return "stands there more or less often than it should";
+    case NTK_RULE_QUEUE_NOTHING_ELSE: return "its number is no task";
+    case NTK_RULE_QUEUE_ORDERED: return "may not stand before the next slot";
+    case NTK_RULE_TASK_WORKED: return "working priority is not the one worked out afresh";
+    case NTK_RULE_TASK_NOT_DUE: return "due mark is the tick counter";
+    case NTK_RULE_TICK_RANGE: return "tick counter above 4294967295";
+    case NTK_RULE_DEPTH_RANGE: return "lock depth above 250";
+    case NTK_RULE_RUNNING_RANGE: return "running task is no task";
+    case NTK_RULE_RUNNING_FIRST: return "lock depth 0, and the running task is not the first able one";
+    case NTK_RULE_RUNNING_ABLE: return "locked, and the running task is not able";
+    case NTK_RULE_WRONG_LENGTH: return "wrong length";
     default: return "unknown";
     }
 }

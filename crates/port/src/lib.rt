@@ -7,6 +7,7 @@ ghost use Rattle.port.specs.Step.{said, plainly, answerIn, runsIn, versi
 use table::layout;
 
 pub mod read;
+pub mod reasons;
 
 // How a call was answered, and the task to run: its number plus 1, 0 for none.
 #[repr(C)]
@@ -80,7 +81,7 @@ fn serve_plainly(kind: u8, a: u32, b: u32, c: u32, d: u32, e: u32, f: u32, image
 }
 
 // The version of this library: major, minor and patch, two digits for each of the last two. The header has the same.
-const VERSION: u32 = 10101;
+const VERSION: u32 = 10200;
 
 #[no_mangle]
 pub extern "C" fn ntk_version() -> u32

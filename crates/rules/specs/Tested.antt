@@ -77,14 +77,14 @@ no-task k =
     last (ap λ (x : Task). x .consume) equals λ consume i.
     record { used = used i; base = base i; work = work i; suspend = suspend i; quantum = quantum i; left = left i; state = state i; object = object i; marked = marked i; due = due i; outcome = outcome i; mask = mask i; test = test i; consume = consume i }
 
-no-semaphore : (x : Semaphore) → Decides (isNoSemaphore x) (x ≡ noSemaphore)
+pub no-semaphore : (x : Semaphore) → Decides (isNoSemaphore x) (x ≡ noSemaphore)
 unfolding isNoSemaphore
 no-semaphore x =
     first (ap λ (x : Semaphore). x .used) equals λ used.
     last (ap λ (x : Semaphore). x .count) equals λ count i.
     record { used = used i; count = count i }
 
-no-mutex : (x : Mutex) → Decides (isNoMutex x) (x ≡ noMutex)
+pub no-mutex : (x : Mutex) → Decides (isNoMutex x) (x ≡ noMutex)
 unfolding isNoMutex
 no-mutex x =
     first (ap λ (x : Mutex). x .used) equals λ used.
@@ -92,7 +92,7 @@ no-mutex x =
     last (ap λ (x : Mutex). x .nesting) equals λ nesting i.
     record { used = used i; holder = holder i; nesting = nesting i }
 
-no-group : (x : Group) → Decides (isNoGroup x) (x ≡ noGroup)
+pub no-group : (x : Group) → Decides (isNoGroup x) (x ≡ noGroup)
 unfolding isNoGroup
 no-group x =
     first (ap λ (x : Group). x .used) equals λ used.
@@ -208,7 +208,7 @@ unfolding next
 ends t s j h = rw (List·getD-eq-default (t .tasks) noTask {n = j} (omega arith)) (omega arith)
 
 -- The working priority is tested against the one computed.
-worked : {n : ℕ} {next : ℕ → ℕ} {base : ℕ → ℕ} {i p : ℕ} → Ends n next → i < n → Decides (eqb p (fresh n next base i)) (Fresh n next base i p)
+pub worked : {n : ℕ} {next : ℕ → ℕ} {base : ℕ → ℕ} {i p : ℕ} → Ends n next → i < n → Decides (eqb p (fresh n next base i)) (Fresh n next base i p)
 worked {n} {next} {base} {i} {p} e l =
     last (λ f. fresh-one f (fresh-is base e l)) equals λ q. subst (Fresh n next base i) (sym q) (fresh-is base e l)
 

@@ -1,0 +1,18 @@
+use Rattle.why.specs.Tests.{recordEnd}
+use Rattle.why.proofs.record_end.Statement.{statement}
+use Rattle.why.proofs.record_end.Tie as tie
+
+returns : tie.Need-returns
+unfolding recordEnd
+returns c = rw (c .if1 .taken)
+
+returns-2 : tie.Need-returns-2
+unfolding recordEnd
+returns-2 c = rw (c .if1 .left)
+
+pub record-end-spec : {M : Type 1} → statement M
+record-end-spec =
+    tie.close
+    (tie.spec
+    returns
+    returns-2)

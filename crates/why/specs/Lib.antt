@@ -1,0 +1,10 @@
+pub mod Broken
+pub mod Tests
+pub mod Theorem
+pub mod Zeros
+pub mod TestLaws
+pub mod Least
+pub mod Awaited
+pub mod Slots
+pub mod Decided
+pub mod Explained
