@@ -5,6 +5,7 @@
 //!     compare lengths          [--seed S] [--up-to L]
 //!     compare kinds            [--seed S] [--tables T]
 //!     compare tape FILE..
+//!     compare record FILE   [--seed S] [--calls C] [--images I]
 //!     compare all              [--seed S]
 //!
 //! S is a number or `now`. At the first difference the program tells it and exits with 1.
@@ -16,6 +17,7 @@ mod kernel;
 mod met;
 mod port;
 mod random;
+mod record;
 mod tables;
 
 use caller::Caller;
@@ -411,6 +413,7 @@ fn main() {
         "lengths" => lengths(seed, number("--up-to", 5000)),
         "kinds" => kinds(seed, number("--tables", 40)),
         "tape" => tapes(&arguments[1..]),
+        "record" => record::record(&arguments[1], number("--calls", 100_000), number("--images", 10_000), seed),
         "all" => {
             lengths(seed, 5000);
             kinds(seed, 40);
@@ -418,7 +421,7 @@ fn main() {
             random_calls(1_000_000, seed, 400);
         }
         _ => {
-            println!("usage: compare random [N] | damage [N] | lengths | kinds | tape FILE.. | all; flags: see compare.rs");
+            println!("usage: compare random [N] | damage [N] | lengths | kinds | tape FILE.. | record FILE | all; flags: see compare.rs");
             std::process::exit(2);
         }
     }

@@ -74,7 +74,7 @@ pub struct Difference {
     pub guards_hold: bool,
 }
 
-fn expected(outcome: Outcome) -> NtkOutcome {
+pub fn expected(outcome: Outcome) -> NtkOutcome {
     NtkOutcome { answer: outcome.answer, runs: outcome.runs.map_or(0, |t| t as u32 + 1) }
 }
 
