@@ -18,6 +18,7 @@ static const struct kind all_kinds[] = {
     {NTK_LOCK, "lock"},
     {NTK_UNLOCK, "unlock"},
     {NTK_TICK, "tick"},
+    {NTK_SET_DEFAULT_QUANTUM, "default quantum"},
     {NTK_SEMAPHORE_CREATE, "semaphore create"},
     {NTK_SEMAPHORE_DELETE, "semaphore delete"},
     {NTK_SEMAPHORE_WAIT, "semaphore wait"},
@@ -113,6 +114,7 @@ static void build_equals(void)
     bad_case("the first of 32", NTK_TASK_DELETE, 0, 0, 0);
     bad_case("the first of 32", NTK_DELAY, 5, 0, 0);
     bad_case("32 equals", NTK_LOCK, 0, 0, 0);
+    bad_case("32 equals", NTK_SET_DEFAULT_QUANTUM, 7, 0, 0);
     make(NTK_LOCK, 0, 0, 0);
     bad_case("32 equals", NTK_UNLOCK, 0, 0, 0);
     make(NTK_UNLOCK, 0, 0, 0);

@@ -27,7 +27,7 @@ struct columns {
         uint8_t flags[PLAIN_GROUPS][4];
     } group;
     uint8_t queue[QUEUES][PLAIN_TASKS];
-    uint8_t tick[4], depth, running;
+    uint8_t tick[4], default_quantum[2], depth, running;
 };
 
 _Static_assert(offsetof(struct columns, task.test) == 256, "tests");
@@ -39,6 +39,7 @@ _Static_assert(offsetof(struct columns, mutex) == 784, "mutexes");
 _Static_assert(offsetof(struct columns, group) == 832, "groups");
 _Static_assert(offsetof(struct columns, queue) == 872, "queues");
 _Static_assert(offsetof(struct columns, tick) == 2184, "tick");
+_Static_assert(offsetof(struct columns, depth) == 2190, "depth");
 _Static_assert(sizeof(struct columns) == NTK_IMAGE_SIZE, "size");
 
 static void put16(uint8_t at[2], uint32_t n)
@@ -116,6 +117,7 @@ void image_of(const struct plain *k, uint8_t image[NTK_IMAGE_SIZE])
     for (i = 0; i < QUEUES; i++)
         put_queue(&to, k, i);
     put32(to.tick, k->tick);
+    put16(to.default_quantum, k->default_quantum);
     to.depth = k->depth;
     to.running = k->running == PLAIN_NONE ? 0 : k->running + 1;
     memcpy(image, &to, sizeof to);

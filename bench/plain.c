@@ -12,6 +12,7 @@ void plain_fresh(struct plain *k)
     memset(k, 0, sizeof *k);
     for (i = 0; i < PLAIN_NODES; i++)
         k->next[i] = k->prev[i] = (uint8_t)i;
+    k->default_quantum = NTK_FRESH_QUANTUM;
     k->running = PLAIN_NONE;
 }
 
@@ -256,7 +257,7 @@ static unsigned task_create(struct plain *k, uint32_t a, uint32_t b, uint32_t c)
         return NTK_BAD_VALUE;
     t->used = 1;
     t->base = (uint8_t)b;
-    t->quantum = t->left = (uint16_t)c;
+    t->quantum = t->left = c == 0 ? k->default_quantum : (uint16_t)c;
     k->work[a] = (uint8_t)b;
     join(k, PLAIN_ABLE, a);
     return NTK_DONE;
@@ -405,13 +406,21 @@ static unsigned unlock(struct plain *k)
     return NTK_DONE;
 }
 
+static unsigned set_default_quantum(struct plain *k, uint32_t a)
+{
+    if (a == 0 || a > 65535)
+        return NTK_BAD_VALUE;
+    k->default_quantum = (uint16_t)a;
+    return NTK_DONE;
+}
+
 static unsigned tick(struct plain *k)
 {
     unsigned i = k->running;
     uint32_t rest;
 
     k->tick++;
-    if (i != PLAIN_NONE && k->task[i].quantum != 0) {
+    if (i != PLAIN_NONE) {
         struct plain_task *t = &k->task[i];
         if (t->left > 0)
             t->left--;
@@ -786,6 +795,8 @@ static inline unsigned serve(struct plain *k, uint8_t kind, uint32_t a, uint32_t
         return unlock(k);
     case NTK_TICK:
         return tick(k);
+    case NTK_SET_DEFAULT_QUANTUM:
+        return set_default_quantum(k, a);
     case NTK_SEMAPHORE_CREATE:
         return semaphore_create(k, a, b);
     case NTK_SEMAPHORE_DELETE:
@@ -906,7 +917,7 @@ int plain_check(const struct plain *k)
             else
                 wrong |= wanted;
             bad |= word >= UINT64_C(251) << SUSPENDED;
-            bad |= t->left > t->quantum;
+            bad |= (t->left > t->quantum) | (t->quantum == 0);
             wrong |= (t->object | (marked ^ t->state)) & (waits - 1); /* a plain task has no mark, a delayed one has one */
             wrong |= t->mark & (marked - 1);
             bad |= (t->mark == k->tick) & marked;
@@ -942,7 +953,7 @@ int plain_check(const struct plain *k)
         const struct plain_group *g = &k->group[i];
         bad |= (g->used & ~UINT32_C(1)) | (g->flags & (g->used - 1));
     }
-    if (wrong | bad | held_twice | (held ^ owned))
+    if (wrong | bad | held_twice | (held ^ owned) | (k->default_quantum == 0))
         return 0;
 
     /* Queues: the able tasks, then eight objects at a time, of which only those with waiters are looked at. A walk comes back to its

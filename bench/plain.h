@@ -22,7 +22,7 @@ struct plain_task {
     uint16_t held;   /* the mutexes that it holds, a bit each */
     uint8_t outcome; /* of its last wait */
     uint8_t suspended;
-    uint16_t quantum;
+    uint16_t quantum; /* not 0 where it is in use */
     uint16_t left;
     uint32_t mark; /* due mark; 0 where its bit in `marked` is not set */
 };
@@ -61,6 +61,7 @@ struct plain {
     uint8_t next[PLAIN_NODES];
     uint8_t prev[PLAIN_NODES];
     uint8_t work[PLAIN_NODES]; /* working priorities; 0 for heads and free tasks */
+    uint16_t default_quantum;  /* not 0 */
     uint8_t depth;
     uint8_t running; /* PLAIN_NONE for none */
 };

@@ -17,7 +17,7 @@ void failed(const char *what)
 
 void make_fresh(struct table *t)
 {
-    memset(t->image, 0, sizeof t->image);
+    ntk_fresh(t->image, sizeof t->image);
     plain_fresh(&t->plain);
 }
 

@@ -259,6 +259,7 @@ static const struct {
     {NTK_SEMAPHORE_CREATE, 4}, {NTK_SEMAPHORE_DELETE, 1}, {NTK_SEMAPHORE_WAIT, 12},  {NTK_SEMAPHORE_POST, 10},
     {NTK_SEMAPHORE_POST | NTK_INTERRUPT, 3},              {NTK_SEMAPHORE_ABORT, 2},  {NTK_MUTEX_CREATE, 6},
     {NTK_MUTEX_DELETE, 1},     {NTK_MUTEX_WAIT, 25},      {NTK_MUTEX_POST, 15},      {NTK_MUTEX_ABORT, 2},
+    {NTK_SET_DEFAULT_QUANTUM, 1},
 };
 
 enum { WEIGHTS = sizeof weights / sizeof weights[0] };
@@ -289,6 +290,9 @@ static struct call some_call(void)
         break;
     case NTK_DELAY:
         call.n[0] = 1 + below(12);
+        break;
+    case NTK_SET_DEFAULT_QUANTUM:
+        call.n[0] = below(4);
         break;
     case NTK_SEMAPHORE_CREATE:
         call.n[0] = below(8);

@@ -38,6 +38,9 @@ static int body(unsigned kind, int lengths[NUMBERS])
     case NTK_DELAY:
         a = 4;
         break;
+    case NTK_SET_DEFAULT_QUANTUM:
+        a = 2;
+        break;
     case NTK_SEMAPHORE_CREATE:
     case NTK_GROUP_CREATE:
         a = 1, b = 4;

@@ -1,8 +1,9 @@
 /* nonthachak.h: the kernel's bookkeeping, for the C port.
  *
- * The port owns a block of NTK_IMAGE_SIZE bytes, the image, zeroed at start-up, and makes each service call and each tick on it, with
- * interrupts shut: by a function for each service (ntk_mutex_wait and so on) or by ntk_step, which they are made of. A call changes the
- * image in place and says how it was answered and which task is to run; ntk_read shows a field of it.
+ * The port owns a block of NTK_IMAGE_SIZE bytes, the image. ntk_fresh writes the fresh table into it at start-up; zeroed memory is not the
+ * fresh table, and gets 15. Then the port makes each service call and each tick on it, with interrupts shut: by a function for each service
+ * (ntk_mutex_wait and so on) or by ntk_step, which they are made of. A call changes the image in place and says how it was answered and
+ * which task is to run; ntk_read shows a field of it.
  * docs/PORT.md tells how to use it, docs/API.md each service, docs/ANSWERS.md each answer, docs/IMAGE.md what each byte means.
  */
 #ifndef NONTHACHAK_H
@@ -17,14 +18,20 @@ extern "C" {
 
 /* The version of this header; ntk_version() is that of the archive. A port is built right where the two are the same. */
 #define NTK_VERSION_MAJOR 1
-#define NTK_VERSION_MINOR 2
+#define NTK_VERSION_MINOR 3
 #define NTK_VERSION_PATCH 0
 #define NTK_VERSION (NTK_VERSION_MAJOR * 10000u + NTK_VERSION_MINOR * 100u + NTK_VERSION_PATCH)
 
 uint32_t ntk_version(void);
 
-/* How long an image is. Zeroed memory is the fresh table. */
-#define NTK_IMAGE_SIZE 2190
+/* How long an image is. */
+#define NTK_IMAGE_SIZE 2192
+
+/* The first call of every board: any bytes at `image` become the fresh table, with nothing in use, none running and the default quantum
+ * NTK_FRESH_QUANTUM, and the answer is 0. With a `length` other than NTK_IMAGE_SIZE it is 15, and no byte changes.
+ * Zeroed memory will not do: its default quantum is 0, which no sound table has, and ntk_step answers it with 15. The answer may be dropped,
+ * as with a wrong length every later call says 15 too. What `image` must be is said at ntk_step. */
+uint32_t ntk_fresh(uint8_t *image, size_t length);
 
 #define NTK_TASKS 32
 #define NTK_SEMAPHORES 16
@@ -35,13 +42,17 @@ uint32_t ntk_version(void);
 /* Limits, each the greatest that is taken. */
 #define NTK_LAST_PRIORITY 62       /* base and working priority; 0 is the most urgent */
 #define NTK_MOST_NESTED 250        /* suspends of a task, nesting of a mutex, lock depth */
-#define NTK_MOST_QUANTUM 65535
+#define NTK_MOST_QUANTUM 65535     /* of a task, and the default */
 #define NTK_MOST_COUNT 4294967295u /* of a semaphore */
+
+/* The default quantum of the fresh table; NTK_SET_DEFAULT_QUANTUM sets another. */
+#define NTK_FRESH_QUANTUM 100
 
 /* Kinds of calls, with the numbers a to f that each looks at, and who may make it:
  * T a running task, I an interrupt (kind | NTK_INTERRUPT), S start-up code, with none running. */
 enum ntk_kind {
-    NTK_TASK_CREATE = 0x01,      /* a task, b base priority 0..62, c quantum 0..65535   T S   */
+    NTK_TASK_CREATE = 0x01,      /* a task, b base priority 0..62, c quantum 0..65535,  T S
+                                  * where 0 takes the default quantum of that moment          */
     NTK_TASK_DELETE = 0x02,      /* a task                                              T S   */
     NTK_CHANGE_PRIORITY = 0x03,  /* a task, b base priority 0..62                       T S   */
     NTK_SUSPEND = 0x04,          /* a task                                              T S   */
@@ -52,6 +63,7 @@ enum ntk_kind {
     NTK_LOCK = 0x09,             /*                                                     T S   */
     NTK_UNLOCK = 0x0A,           /*                                                     T S   */
     NTK_TICK = 0x0B,             /*                                                     T I S */
+    NTK_SET_DEFAULT_QUANTUM = 0x0D, /* a quantum 1..65535                               T S   */
     NTK_SEMAPHORE_CREATE = 0x10, /* a semaphore, b count                                T S   */
     NTK_SEMAPHORE_DELETE = 0x11, /* a semaphore, b force 0 or 1                         T S   */
     NTK_SEMAPHORE_WAIT = 0x12,   /* a semaphore, b block 0 or 1, c limit, 0 for ever    T     */
@@ -74,7 +86,8 @@ enum ntk_kind {
 /* The tests of a wait for flags: what it asks of the flags of its mask. A wait that consumes turns over those that are as it asks. */
 enum ntk_test { NTK_ALL_SET = 0, NTK_ANY_SET = 1, NTK_ALL_CLEAR = 2, NTK_ANY_CLEAR = 3 };
 
-/* The numbers 0 and 1 of a call, by name: block, limit, force, consume, and what a post of flags does. */
+/* The numbers 0 and 1 of a call, by name: the quantum of a task, block, limit, force, consume, and what a post of flags does. */
+#define NTK_USE_DEFAULT 0u
 #define NTK_NO_BLOCK 0u
 #define NTK_MAY_BLOCK 1u
 #define NTK_FOREVER 0u
@@ -91,7 +104,8 @@ enum ntk_answer {
     NTK_BEYOND_RANGE = 1,    /* a number beyond its range, or an unknown kind */
     NTK_NOT_IN_USE = 2,      /* the number is not in use */
     NTK_IN_USE = 3,          /* create: the number is in use */
-    NTK_BAD_VALUE = 4,       /* base above 62, a yes/no above 1, a delay of 0, a quantum above 65535, a mask of 0, a fifth test */
+    NTK_BAD_VALUE = 4,       /* base above 62, a yes/no above 1, a delay of 0, a quantum above 65535, a default quantum of 0, a mask of 0,
+                              * a fifth test */
     NTK_BY_INTERRUPT = 5,    /* not a tick, a semaphore post or a group post */
     NTK_NONE_RUNNING = 6,    /* the call wants a running task */
     NTK_WHILE_LOCKED = 7,    /* not while the scheduler is locked */
@@ -131,8 +145,8 @@ struct ntk_outcome {
 NTK_MUST_USE struct ntk_outcome ntk_step(uint8_t kind, uint32_t a, uint32_t b, uint32_t c, uint32_t d, uint32_t e, uint32_t f,
                                          uint8_t *image, size_t length);
 
-/* The same without the test of the image, and quicker: for an image that was zeroed and that only these two functions have changed
- * since. There it gives what ntk_step gives. On an image that breaks a standing rule it gives no sensible table. */
+/* The same without the test of the image, and quicker: for an image that ntk_fresh has written and that only these two functions have
+ * changed since. There it gives what ntk_step gives. On an image that breaks a standing rule it gives no sensible table. */
 NTK_MUST_USE struct ntk_outcome ntk_serve(uint8_t kind, uint32_t a, uint32_t b, uint32_t c, uint32_t d, uint32_t e, uint32_t f,
                                           uint8_t *image, size_t length);
 
@@ -143,7 +157,7 @@ enum ntk_field {
     NTK_FIELD_TASK_BASE = 0x01,        /* base priority                                    task 0..31      */
     NTK_FIELD_TASK_WORK = 0x02,        /* working priority                                 task 0..31      */
     NTK_FIELD_TASK_SUSPEND = 0x03,     /* suspend count                                    task 0..31      */
-    NTK_FIELD_TASK_QUANTUM = 0x04,     /* quantum                                          task 0..31      */
+    NTK_FIELD_TASK_QUANTUM = 0x04,     /* quantum, 1 or more                               task 0..31      */
     NTK_FIELD_TASK_LEFT = 0x05,        /* what is left of the quantum                      task 0..31      */
     NTK_FIELD_TASK_STATE = 0x06,       /* enum ntk_state                                   task 0..31      */
     NTK_FIELD_TASK_OBJECT = 0x07,      /* the object waited for; 0 where it waits for none task 0..31      */
@@ -163,7 +177,8 @@ enum ntk_field {
     NTK_FIELD_QUEUE_SLOT = 0xE0,       /* task plus 1; 0 for none                          NTK_SLOT(q, j)  */
     NTK_FIELD_TICK = 0xF0,             /* tick counter                                     0               */
     NTK_FIELD_DEPTH = 0xF1,            /* lock depth                                       0               */
-    NTK_FIELD_RUNNING = 0xF2           /* running task plus 1; 0 for none                  0               */
+    NTK_FIELD_RUNNING = 0xF2,          /* running task plus 1; 0 for none                  0               */
+    NTK_FIELD_DEFAULT_QUANTUM = 0xF3   /* default quantum, 1 or more                       0               */
 };
 
 /* The states of a task. */
@@ -209,6 +224,7 @@ enum ntk_rule {
     NTK_RULE_TASK_DELAY_MARK = 0x12,    /* delayed, it has a due mark                    task 0..31        */
     NTK_RULE_TASK_LEFT_MOST = 0x13,     /* what is left is at most the quantum           task 0..31        */
     NTK_RULE_TASK_ASKS = 0x14,          /* waiting for flags, its mask is not 0          task 0..31        */
+    NTK_RULE_TASK_TURN = 0x15,          /* in use, its quantum is not 0                  task 0..31        */
     NTK_RULE_SEMAPHORE_USED = 0x20,     /* in use is 0 or 1                              semaphore 0..15   */
     NTK_RULE_SEMAPHORE_COUNTS = 0x21,   /* count 0..4294967295; no bytes break it        semaphore 0..15   */
     NTK_RULE_SEMAPHORE_FREE = 0x22,     /* free, its fields are 0                        semaphore 0..15   */
@@ -235,6 +251,8 @@ enum ntk_rule {
     NTK_RULE_RUNNING_RANGE = 0xB2,      /* the running task is a task or none            0                 */
     NTK_RULE_RUNNING_FIRST = 0xB3,      /* at lock depth 0 the first able task runs      0                 */
     NTK_RULE_RUNNING_ABLE = 0xB4,       /* at a greater one an able task runs, or none   0                 */
+    NTK_RULE_DEFAULT_LEAST = 0xB5,      /* the default quantum is not 0                  0                 */
+    NTK_RULE_DEFAULT_MOST = 0xB6,       /* default quantum ..65535; no bytes break it    0                 */
     NTK_RULE_WRONG_LENGTH = 0xFF        /* the length is not NTK_IMAGE_SIZE              0                 */
 };
 
@@ -358,6 +376,7 @@ static inline const char *ntk_rule_name(uint32_t rule)
     case NTK_RULE_TASK_DELAY_MARK: return "delayed, and it has no due mark";
     case NTK_RULE_TASK_LEFT_MOST: return "more is left than its quantum";
     case NTK_RULE_TASK_ASKS: return "waits for flags with a mask of 0";
+    case NTK_RULE_TASK_TURN: return "in use with a quantum of 0";
     case NTK_RULE_SEMAPHORE_USED: return "in use is neither 0 nor 1";
     case NTK_RULE_SEMAPHORE_COUNTS: return "count above 4294967295";
     case NTK_RULE_SEMAPHORE_FREE: return "free, and not all of its fields are 0";
@@ -384,6 +403,8 @@ static inline const char *ntk_rule_name(uint32_t rule)
     case NTK_RULE_RUNNING_RANGE: return "running task is no task";
     case NTK_RULE_RUNNING_FIRST: return "lock depth 0, and the running task is not the first able one";
     case NTK_RULE_RUNNING_ABLE: return "locked, and the running task is not able";
+    case NTK_RULE_DEFAULT_LEAST: return "default quantum 0: not begun by ntk_fresh?";
+    case NTK_RULE_DEFAULT_MOST: return "default quantum above 65535";
     case NTK_RULE_WRONG_LENGTH: return "wrong length";
     default: return "unknown";
     }
@@ -454,6 +475,11 @@ NTK_MUST_USE static inline struct ntk_outcome ntk_tick(uint8_t *image)
 NTK_MUST_USE static inline struct ntk_outcome ntk_tick_isr(uint8_t *image)
 {
     return NTK_CALL(NTK_TICK | NTK_INTERRUPT, 0, 0, 0, 0, 0, 0, image, NTK_IMAGE_SIZE);
+}
+
+NTK_MUST_USE static inline struct ntk_outcome ntk_set_default_quantum(uint8_t *image, uint32_t quantum)
+{
+    return NTK_CALL(NTK_SET_DEFAULT_QUANTUM, quantum, 0, 0, 0, 0, 0, image, NTK_IMAGE_SIZE);
 }
 
 NTK_MUST_USE static inline struct ntk_outcome ntk_semaphore_create(uint8_t *image, uint32_t semaphore, uint32_t count)

@@ -4,7 +4,7 @@
 
 #include "nonthachak.h"
 
-static uint8_t table[NTK_IMAGE_SIZE]; /* zeroed: the fresh table */
+static uint8_t table[NTK_IMAGE_SIZE]; /* ntk_fresh makes it the fresh table, before the first call */
 
 static void tell(const char *what, struct ntk_outcome o)
 {
@@ -19,14 +19,6 @@ static void tell(const char *what, struct ntk_outcome o)
 static void call(const char *what, uint8_t kind, uint32_t a, uint32_t b, uint32_t c)
 {
     tell(what, ntk_step(kind, a, b, c, 0, 0, 0, table, sizeof table));
-}
-
-static void make_fresh(void)
-{
-    unsigned i;
-
-    for (i = 0; i < sizeof table; i++)
-        table[i] = 0;
 }
 
 /* The case P1 of the bench. */
@@ -49,7 +41,7 @@ static void two_mutexes(void)
     enum { READER = 8, DECODER = 9, OUTPUT = 10, KEEPER = 11, FRAMES = 4, CLOCK = 5 };
 
     puts("the kiosk's loop:");
-    make_fresh();
+    ntk_fresh(table, sizeof table);
     call("create the decoder, base 30", NTK_TASK_CREATE, DECODER, 30, 0);
     call("create the mutex of the frames", NTK_MUTEX_CREATE, FRAMES, 0, 0);
     call("create the mutex of the clock", NTK_MUTEX_CREATE, CLOCK, 0, 0);
@@ -89,7 +81,7 @@ static void interrupt_posts(const char *what, uint32_t flag)
 static void card_and_clock(void)
 {
     puts("card and clock:");
-    make_fresh();
+    ntk_fresh(table, sizeof table);
     call("create the group, no flag set", NTK_GROUP_CREATE, SIGNS, 0, 0);
     call("create the reader, base 20", NTK_TASK_CREATE, 8, 20, 0);
     reader_waits();
@@ -100,10 +92,27 @@ static void card_and_clock(void)
     interrupt_posts("the clock posts", CLOCK);
 }
 
+/* Two tasks of one level, both created without a quantum of their own: each takes turns by the default of the moment of its creation. */
+static void film_house(void)
+{
+    unsigned i;
+
+    puts("the film house:");
+    ntk_fresh(table, sizeof table);
+    call("the default quantum is set to 1", NTK_SET_DEFAULT_QUANTUM, 1, 0, 0);
+    call("create task 1, base 5", NTK_TASK_CREATE, 1, 5, NTK_USE_DEFAULT);
+    call("the default quantum is set to 2", NTK_SET_DEFAULT_QUANTUM, 2, 0, 0);
+    call("create task 2, base 5", NTK_TASK_CREATE, 2, 5, NTK_USE_DEFAULT);
+    for (i = 0; i < 6; i++)
+        call("tick", NTK_TICK | NTK_INTERRUPT, 0, 0, 0);
+}
+
 int main(void)
 {
+    ntk_fresh(table, sizeof table);
     first_case();
     two_mutexes();
     card_and_clock();
+    film_house();
     return 0;
 }

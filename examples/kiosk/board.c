@@ -34,7 +34,7 @@ uint32_t board_task(void)
 }
 
 /* Nothing may run on a table that is not sound: interrupts stay shut, and the image is kept for whoever looks into it. On a board this is
- * where the watchdog is left to bite; it starts the board afresh, from zeroed bytes. */
+ * where the watchdog is left to bite; it starts the board afresh, by ntk_fresh. */
 static void stop_board(uint32_t answer)
 {
     shut = 1;
@@ -179,7 +179,7 @@ void raise_interrupt(void (*entry)(void))
 
 void board_run(void (*first)(void), void (*unit)(void), uint32_t ticks)
 {
-    memset(table, 0, sizeof table);
+    ntk_fresh(table, sizeof table);
     memset(owners, 0, sizeof owners);
     memset(&counts, 0, sizeof counts);
     on_processor = left_behind = 0;

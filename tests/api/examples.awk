@@ -1,4 +1,4 @@
-# The examples of docs/API.md as a C file: a function for each, from a zeroed table. `o = CALL; /* ANSWER, task N runs */` and `n = CALL; /* NUMBER */`
+# The examples of docs/API.md as a C file: a function for each, from the fresh table. `o = CALL; /* ANSWER, task N runs */` and `n = CALL; /* NUMBER */`
 # are checked by what the comment says; an example has no other lines.
 function refuse(what) {
     print "examples.awk: line " NR ": " what ": " $0 >"/dev/stderr"

@@ -1,7 +1,6 @@
 /* What the examples of docs/API.md are held by; examples.awk makes the functions that call it. */
 #include <inttypes.h>
 #include <stdio.h>
-#include <string.h>
 
 #include "nonthachak.h"
 
@@ -14,7 +13,7 @@ static unsigned long compared, wrong;
 
 static void make_fresh(void)
 {
-    memset(table, 0, sizeof table);
+    ntk_fresh(table, sizeof table);
 }
 
 static void expect_number(int line, uint64_t got, uint64_t want)

@@ -36,6 +36,7 @@ static void expect(const char *what, uint32_t runs, uint32_t want_runs, uint32_t
 
 int main(void)
 {
+    wrong = ntk_fresh(table, sizeof table) != NTK_DONE;
     expect("task 3 comes", call(NTK_TASK_CREATE, 3, 10, 0, 0, 0, 0).runs, 4, 0, 1);
     expect("task 5 comes behind it", call(NTK_TASK_CREATE, 5, 20, 0, 0, 0, 0).runs, 4, 0, 1);
     __asm__ volatile("cpsid i" : : : "memory");

@@ -1,6 +1,5 @@
 /* tapes FILE..: plays call tapes by ntk_step, each on a fresh table, and prints their lines. */
 #include <stdio.h>
-#include <string.h>
 
 #include "../../tools/tape/reel.h"
 #include "nonthachak.h"
@@ -12,7 +11,8 @@ static void play(FILE *file)
     struct call call;
     enum got got;
 
-    memset(image, 0, sizeof image);
+    if (ntk_fresh(image, sizeof image) != NTK_DONE)
+        puts("no fresh table");
     while ((got = reel_next(&reel, &call)) == GOT_CALL) {
         const uint32_t *n = call.numbers;
         struct ntk_outcome o = ntk_step(reel.bytes[0], n[0], n[1], n[2], n[3], n[4], n[5], image, sizeof image);

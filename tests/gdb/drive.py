@@ -43,8 +43,8 @@ with open(os.environ["NONTHACHAK_OUT"], "w") as out:
     go_to("ntk_flags_of")
     show("the reader waits for card and clock, the clock has come")
 
-    # A semaphore with a count, one whose waiter is no task; a task that waits for what nobody knows, one that is free and suspended; a
-    # mutex that is free and has a waiter; a gap in the able queue; one running that is no task.
+    # A semaphore with a count, one whose waiter is no task; a task that waits for what nobody knows, one without a quantum, one that is free
+    # and suspended; a mutex that is free and has a waiter; a gap in the able queue; no default quantum; one running that is no task.
     poke("semaphore used", 3, 1)
     poke("semaphore count", 3, 0x04030201)
     poke("semaphore used", 15, 1)
@@ -55,10 +55,12 @@ with open(os.environ["NONTHACHAK_OUT"], "w") as out:
     poke("task marked", 8, 1)
     poke("task due", 8, 4294967295)
     poke("task outcome", 8, 7)
+    poke("task used", 9, 1)
     poke("task suspend", 31, 250)
     poke("queue", 17, 1)
     poke("queue", 0, 32 << 8)
     poke("tick", 0, 0x01020304)
+    poke("default quantum", 0, 0)
     poke("depth", 0, 250)
     poke("running", 0, 33)
     show("a broken table")

@@ -51,7 +51,7 @@ static void try_kind_zero(void)
 
 static void try_deletes(void)
 {
-    memset(table, 0, sizeof table);
+    ntk_fresh(table, sizeof table);
     holds("task 1", make(NTK_TASK_CREATE, 1, 10, 0), NTK_DONE, 2);
     holds("task 2", make(NTK_TASK_CREATE, 2, 20, 0), NTK_DONE, 2);
     holds("mutex", make(NTK_MUTEX_CREATE, 0, 0, 0), NTK_DONE, 2);

@@ -57,7 +57,7 @@ static uint32_t lost_in_traffic(void (*entry)(void))
     uint64_t seed = 1;
     uint32_t lost = 0, i;
 
-    memset(table, 0, sizeof table);
+    ntk_fresh(table, sizeof table);
     for (i = 0; i < CALLS; i++) {
         struct call c = some_call(&seed);
         struct ntk_outcome o;

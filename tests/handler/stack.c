@@ -83,7 +83,7 @@ static void make_chain(void)
 {
     uint32_t i;
 
-    memset(table, 0, sizeof table);
+    ntk_fresh(table, sizeof table);
     for (i = 0; i < HOLDERS; i++) {
         make(NTK_TASK_CREATE, i, 60 - i, 0, NTK_DONE);
         make(NTK_MUTEX_CREATE, i, 0, 0, NTK_DONE);
@@ -116,7 +116,7 @@ static void measure_traffic(void)
     uint64_t seed = 1;
     unsigned i;
 
-    memset(table, 0, sizeof table);
+    ntk_fresh(table, sizeof table);
     for (i = 0; i < CALLS; i++) {
         struct call c = some_call(&seed);
 

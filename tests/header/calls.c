@@ -1,5 +1,5 @@
 /* Each function of the header beside ntk_step: random calls, each by its function on one image and by ntk_step on another, and then the
- * outcomes and the images are compared. Then the helpers. */
+ * outcomes and the images are compared. Then the fresh image and the helpers. */
 #include <inttypes.h>
 #include <stdio.h>
 #include <string.h>
@@ -39,6 +39,7 @@ static struct service services[] = {
     {NTK_UNLOCK, {0}, 0},
     {NTK_TICK, {0}, 0},
     {NTK_TICK | NTK_INTERRUPT, {0}, 0},
+    {NTK_SET_DEFAULT_QUANTUM, {4}, 0},
     {NTK_SEMAPHORE_CREATE, {4, 2}, 0},
     {NTK_SEMAPHORE_DELETE, {4, 3}, 0},
     {NTK_SEMAPHORE_WAIT, {4, 3, 20}, 0},
@@ -76,6 +77,7 @@ static struct ntk_outcome call(uint8_t kind, const uint32_t *n, uint8_t *image)
     case NTK_UNLOCK: return ntk_unlock(image);
     case NTK_TICK: return ntk_tick(image);
     case NTK_TICK | NTK_INTERRUPT: return ntk_tick_isr(image);
+    case NTK_SET_DEFAULT_QUANTUM: return ntk_set_default_quantum(image, n[0]);
     case NTK_SEMAPHORE_CREATE: return ntk_semaphore_create(image, n[0], n[1]);
     case NTK_SEMAPHORE_DELETE: return ntk_semaphore_delete(image, n[0], n[1]);
     case NTK_SEMAPHORE_WAIT: return ntk_semaphore_wait(image, n[0], n[1], n[2]);
@@ -142,14 +144,51 @@ static void call_all(void)
 
     for (i = 0; i < 200000; i++) {
         if (i % 500 == 0) {
-            memset(by_function, 0, sizeof by_function);
-            memset(by_step, 0, sizeof by_step);
+            expect("the fresh image of the functions", 0, 0, ntk_fresh(by_function + 1, NTK_IMAGE_SIZE));
+            expect("the fresh image", 0, 0, ntk_fresh(by_step, NTK_IMAGE_SIZE));
         }
         call_both(some_service());
     }
     for (i = 0; i < SERVICES; i++)
         if (services[i].changed < 20)
             expect("calls that changed the table, 20 and more, of kind", services[i].kind, 20, services[i].changed);
+}
+
+/* ---- the fresh image */
+
+/* What the header says of it, in the header's words; of a wrong length; and of zeroed memory. */
+static void make_fresh(void)
+{
+    static uint8_t before[NTK_IMAGE_SIZE];
+    uint32_t field;
+
+    memset(by_step, 0xA5, sizeof by_step);
+    memcpy(before, by_step, sizeof before);
+    expect("the fresh image of one byte less", 0, NTK_NOT_SOUND, ntk_fresh(by_step, NTK_IMAGE_SIZE - 1));
+    expect("the fresh image of no byte", 0, NTK_NOT_SOUND, ntk_fresh(by_step, 0));
+    expect("bytes that a wrong length changed", 0, 0, memcmp(before, by_step, sizeof before) != 0);
+    expect("the fresh image", 0, NTK_DONE, ntk_fresh(by_step, NTK_IMAGE_SIZE));
+    expect("its default quantum", 0, NTK_FRESH_QUANTUM, ntk_read(NTK_FIELD_DEFAULT_QUANTUM, 0, by_step, NTK_IMAGE_SIZE));
+    for (field = 0; field < NTK_FIELD_DEFAULT_QUANTUM; field++)
+        if (ntk_read(field, 0, by_step, NTK_IMAGE_SIZE) != NTK_NO_FIELD)
+            expect("what the fresh image has in field", field, 0, ntk_read(field, 0, by_step, NTK_IMAGE_SIZE));
+    expect("a tick on it", 0, NTK_DONE, ntk_step(NTK_TICK, 0, 0, 0, 0, 0, 0, by_step, NTK_IMAGE_SIZE).answer);
+    memset(by_step, 0, sizeof by_step);
+    expect("a tick on zeroed memory", 0, NTK_NOT_SOUND, ntk_step(NTK_TICK, 0, 0, 0, 0, 0, 0, by_step, NTK_IMAGE_SIZE).answer);
+}
+
+/* A task that is created with NTK_USE_DEFAULT has the default quantum of that moment. */
+static void use_default(void)
+{
+    ntk_fresh(by_step, NTK_IMAGE_SIZE);
+    expect("a new default", 0, NTK_DONE, ntk_set_default_quantum(by_step, NTK_MOST_QUANTUM).answer);
+    expect("a task by it", 0, NTK_DONE, ntk_task_create(by_step, 3, 10, NTK_USE_DEFAULT).answer);
+    expect("a default of 0", 0, NTK_BAD_VALUE, ntk_set_default_quantum(by_step, 0).answer);
+    expect("a default that is too great", 0, NTK_BAD_VALUE, ntk_set_default_quantum(by_step, NTK_MOST_QUANTUM + 1).answer);
+    expect("a later default", 0, NTK_DONE, ntk_set_default_quantum(by_step, 7).answer);
+    expect("the task's quantum", 3, NTK_MOST_QUANTUM, ntk_read(NTK_FIELD_TASK_QUANTUM, 3, by_step, NTK_IMAGE_SIZE));
+    expect("what is left of it", 3, NTK_MOST_QUANTUM, ntk_read(NTK_FIELD_TASK_LEFT, 3, by_step, NTK_IMAGE_SIZE));
+    expect("the default", 0, 7, ntk_read(NTK_FIELD_DEFAULT_QUANTUM, 0, by_step, NTK_IMAGE_SIZE));
 }
 
 /* ---- the helpers */
@@ -180,6 +219,8 @@ static void name_answers(void)
 int main(void)
 {
     call_all();
+    make_fresh();
+    use_default();
     read_tasks();
     name_answers();
     if (wrong > 0) {

@@ -98,7 +98,7 @@ impl Caller {
         let g = random.below(self.groups);
         let yes_no = self.yes_no(random);
         let limit = self.limit(random);
-        match random.below(31) {
+        match random.below(32) {
             0 | 1 => call(0x01, t, self.level(random), random.pick(&[0, 1, 2, 3, 65535])),
             2 => call(0x02, t, 0, 0),
             3 => call(0x03, t, self.level(random), 0),
@@ -124,6 +124,7 @@ impl Caller {
             25 => call(0x31, g, yes_no, 0),
             26 | 27 => odd_flags(wait_for_flags(g, yes_no, limit, some_wanted(random)), random),
             28 | 29 => odd_flags(call(0x33, g, random.mask(), yes_no), random),
+            30 => call(0x0D, random.pick(&[0, 1, 1, 2, 3, 100, 65535, 65536, 65537]), 0, 0),
             _ => call(0x34, g, 0, 0),
         }
     }
@@ -143,7 +144,7 @@ impl Caller {
             (_, Some(runs)) if self.deep && random.chance(80) => {
                 if random.chance(60) { self.link(random, kernel, runs) } else { self.grow(random, kernel) }
             }
-            (_, Some(runs)) => match random.below(23) {
+            (_, Some(runs)) => match random.below(24) {
                 0..=6 => self.link(random, kernel, runs),
                 7 | 8 => self.grow(random, kernel),
                 9 => self.reshape(random, kernel),
@@ -157,6 +158,7 @@ impl Caller {
                 18 => Some(call(0x07, random.soon() as usize, 0, 0)),
                 19 | 20 => self.wait_flags(random, kernel),
                 21 => self.post_flags(random, kernel),
+                22 => Some(call(0x0D, random.between(1, 3), 0, 0)),
                 _ => Some(call(0x0B, 0, 0, 0)),
             },
         };

@@ -4,6 +4,7 @@
 //!     compare damage  [IMAGES] [--seed S] [--all-bits T] [--each E]
 //!     compare lengths          [--seed S] [--up-to L]
 //!     compare kinds            [--seed S] [--tables T]
+//!     compare fresh   [IMAGES] [--seed S] [--up-to L]
 //!     compare tape FILE..
 //!     compare record FILE   [--seed S] [--calls C] [--images I]
 //!     compare all              [--seed S]
@@ -12,6 +13,7 @@
 
 mod caller;
 mod damage;
+mod fresh;
 mod image;
 mod kernel;
 mod met;
@@ -39,7 +41,7 @@ fn sequence(seed: u64, longest: usize, calls: &mut Vec<Call>, met: &mut Met) -> 
     let start = tables::start(&mut random);
     let mut caller = Caller::new(&mut random);
     let mut kernel = start.clone();
-    let mut lent = Lent::new(&start.encode(), seed as usize);
+    let mut lent = Lent::table(&start, seed as usize);
     for _ in 0..random.between(1, longest) {
         let call = caller.next(&mut random, &kernel);
         let before = kernel.clone();
@@ -55,7 +57,7 @@ fn sequence(seed: u64, longest: usize, calls: &mut Vec<Call>, met: &mut Met) -> 
 /// The first difference of a list of calls, if it has one.
 fn replay(start: &Kernel, calls: &[Call]) -> Option<Difference> {
     let mut kernel = start.clone();
-    let mut lent = Lent::new(&start.encode(), 0);
+    let mut lent = Lent::table(start, 0);
     calls.iter().find_map(|&call| step_both(&mut kernel, &mut lent, call).err())
 }
 
@@ -412,16 +414,18 @@ fn main() {
         "damage" => damage(count(100_000)),
         "lengths" => lengths(seed, number("--up-to", 5000)),
         "kinds" => kinds(seed, number("--tables", 40)),
+        "fresh" => fresh::fresh(count(1000), seed, number("--up-to", 5000)),
         "tape" => tapes(&arguments[1..]),
         "record" => record::record(&arguments[1], number("--calls", 100_000), number("--images", 10_000), seed),
         "all" => {
+            fresh::fresh(1000, seed, 5000);
             lengths(seed, 5000);
             kinds(seed, 40);
             damage(100_000);
             random_calls(1_000_000, seed, 400);
         }
         _ => {
-            println!("usage: compare random [N] | damage [N] | lengths | kinds | tape FILE.. | record FILE | all; flags: see compare.rs");
+            println!("usage: compare random [N] | damage [N] | lengths | kinds | fresh [N] | tape FILE.. | record FILE | all; flags: see compare.rs");
             std::process::exit(2);
         }
     }

@@ -102,7 +102,12 @@ fn damage_task(random: &mut Random, kernel: &mut Kernel) {
         1 => task.working = random.pick(&[0, 1, 5, 7, 62, 63, 255]),
         2 => task.working = if random.chance(50) { task.base } else { task.working.wrapping_sub(1) },
         3 => task.suspends = random.pick(&[0, 1, 249, 250, 251, 255]),
-        4 => task.quantum = random.pick(&[0, 1, 256, 65535]),
+        4 => {
+            task.quantum = random.pick(&[0, 1, 256, 65535]);
+            if random.chance(50) {
+                task.left = task.left.min(task.quantum);
+            }
+        }
         5 => task.left = random.pick(&[0, 1, task.quantum, task.quantum.wrapping_add(1), 65535]),
         6 | 7 => task.state = some_state(random),
         8 | 9 => {
@@ -116,7 +121,8 @@ fn damage_task(random: &mut Random, kernel: &mut Kernel) {
 
 fn free_or_use(random: &mut Random, task: &mut Task) {
     if random.chance(50) {
-        *task = Task { used: !task.used, ..Task::default() };
+        let quantum = if task.used { 0 } else { random.pick(&[0, 1, 2]) };
+        *task = Task { used: !task.used, quantum, ..Task::default() };
     } else {
         task.used = !task.used;
     }
@@ -207,12 +213,13 @@ fn damage_queue(random: &mut Random, kernel: &mut Kernel) {
 fn damage_rest(random: &mut Random, kernel: &mut Kernel) {
     let mark = random.pick_from(kernel.tasks.iter().filter_map(|task| task.mark));
     let able = random.pick_from(kernel.able.iter().copied());
-    match random.below(6) {
+    match random.below(7) {
         0 => kernel.tick = mark.unwrap_or(7),
         1 => kernel.tick = random.tick(),
         2 => kernel.depth = random.pick(&[0, 1, 249, 250, 251, 255]),
         3 => kernel.running = None,
         4 => kernel.running = able,
+        5 => kernel.default_quantum = random.pick(&[0, 0, 1, 256, 65535]),
         _ => kernel.running = Some(random.below(TASKS)),
     }
 }

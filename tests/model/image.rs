@@ -3,7 +3,7 @@
 
 use crate::kernel::{Kernel, State, Task, Test, Wanted, GROUPS, OBJECTS, TASKS};
 
-pub const IMAGE: usize = 2190;
+pub const IMAGE: usize = 2192;
 
 const QUEUES: usize = 1 + 2 * OBJECTS + GROUPS;
 const SLOTS: usize = TASKS;
@@ -50,8 +50,9 @@ columns! {
     FLAGS: "group", "flags", 840, 4, GROUPS;
     SLOT: "queue", "slot", 872, 1, QUEUES * SLOTS;
     TICK: "", "tick counter", 2184, 4, 1;
-    DEPTH: "", "lock depth", 2188, 1, 1;
-    RUNNING: "", "running task plus 1", 2189, 1, 1;
+    DEFAULT_QUANTUM: "", "default quantum", 2188, 2, 1;
+    DEPTH: "", "lock depth", 2190, 1, 1;
+    RUNNING: "", "running task plus 1", 2191, 1, 1;
 }
 
 /// "There is no padding": each column begins where the one before it ends.
@@ -136,6 +137,7 @@ impl Kernel {
             }
         }
         TICK.put(at, 0, self.tick);
+        DEFAULT_QUANTUM.put(at, 0, self.default_quantum.into());
         DEPTH.put(at, 0, self.depth.into());
         RUNNING.put(at, 0, plus_one(self.running));
         image
@@ -167,6 +169,7 @@ impl Kernel {
             *kernel.queue_mut(place) = decode_queue(image, q)?;
         }
         kernel.tick = TICK.get(image, 0);
+        kernel.default_quantum = DEFAULT_QUANTUM.get(image, 0) as u16;
         kernel.depth = DEPTH.byte(image, 0);
         kernel.running = RUNNING.task_or_none(image, 0)?;
         Some(kernel)

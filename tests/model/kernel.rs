@@ -18,6 +18,7 @@ pub const GROUPS: usize = 8;
 
 pub const LAST_PRIORITY: u32 = 62;
 pub const MOST: u8 = 250; // suspends, nestings, locks
+pub const MOST_QUANTUM: u32 = 65535;
 
 #[derive(Clone, Copy, PartialEq, Eq, Debug, Default)]
 pub enum State {
@@ -89,6 +90,7 @@ pub struct Kernel {
     pub groups: Vec<Group>,
     pub able: Vec<usize>,
     pub tick: u32,
+    pub default_quantum: u16,
     pub depth: u8,
     pub running: Option<usize>,
 }
@@ -123,7 +125,8 @@ pub enum Place {
 // Reading the table
 
 impl Kernel {
-    /// "The fresh table: nothing in use, all numbers 0, none running."
+    /// "The fresh table: nothing in use, all numbers 0, none running." "The table gets a default quantum, [..]
+    /// 100 when fresh"
     pub fn fresh() -> Kernel {
         Kernel {
             tasks: vec![Task::default(); TASKS],
@@ -132,6 +135,7 @@ impl Kernel {
             groups: vec![Group::default(); GROUPS],
             able: vec![],
             tick: 0,
+            default_quantum: 100,
             depth: 0,
             running: None,
         }

@@ -17,6 +17,10 @@ pub struct Met {
     forced_on_ring: u64,
     several_due: u64,
     locked: u64,
+    /// tasks created with 0 while the default was another than the fresh table's
+    by_default: u64,
+    /// ticks that ended a turn
+    turns: u64,
     flags: MetFlags,
 }
 
@@ -105,7 +109,10 @@ impl Met {
                 self.wraps += u64::from(after.tick == 0);
                 let due = before.tasks.iter().filter(|task| task.mark == Some(after.tick)).count();
                 self.several_due += u64::from(due > 1);
+                let turns = |t: usize| before.tasks[t].left <= 1 && before.depth == 0 && before.has_peer(t);
+                self.turns += u64::from(before.running.map_or(false, turns));
             }
+            0x01 => self.by_default += u64::from(call.numbers[2] == 0 && before.default_quantum != 100),
             0x21 => {
                 let mutex = &before.mutexes[call.numbers[0] as usize];
                 self.forced += u64::from(mutex.queue.len() > 1);
@@ -130,6 +137,7 @@ impl Met {
         println!("  longest chain {}, rings closed {} (largest {})", self.longest_chain, self.rings, self.largest_ring);
         println!("  tick wraps {}, ticks with several due {}, calls when locked {}", self.wraps, self.several_due, self.locked);
         println!("  suspended waiters given {}, forced mutex deletes with several waiters {}, on a ring {}", self.suspended_given, self.forced, self.forced_on_ring);
+        println!("  tasks created with 0 by another default than 100 {}, turns that a tick ended {}", self.by_default, self.turns);
         self.flags.tell();
         let mut unmet = vec![];
         for (kind, name, _) in KINDS {
@@ -160,6 +168,7 @@ fn possible(kind: u8) -> &'static [u32] {
         0x09 => &[0, 5, 10],
         0x0A => &[0, 5, 12],
         0x0B => &[0],
+        0x0D => &[0, 4, 5],
         0x10 | 0x20 | 0x30 => &[0, 1, 3, 5],
         0x11 | 0x21 | 0x31 => &[0, 1, 2, 4, 5, 13],
         0x12 | 0x32 => &[0, 1, 2, 4, 5, 6, 7, 8, 14],

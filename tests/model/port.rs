@@ -1,5 +1,5 @@
 //! The port's library: the bytes lent to it, one comparison with the model, and reports of a difference.
-use crate::image::meaning;
+use crate::image::{meaning, IMAGE};
 use crate::kernel::kinds::write_call;
 use crate::kernel::{Call, Kernel, Outcome};
 
@@ -11,6 +11,7 @@ pub struct NtkOutcome {
 }
 
 extern "C" {
+    fn ntk_fresh(image: *mut u8, length: usize) -> u32;
     fn ntk_step(kind: u8, a: u32, b: u32, c: u32, d: u32, e: u32, f: u32, image: *mut u8, length: usize) -> NtkOutcome;
 }
 
@@ -33,7 +34,7 @@ impl Lent {
         Lent { bytes, from, to }
     }
 
-    fn image(&self) -> &[u8] {
+    pub fn image(&self) -> &[u8] {
         &self.bytes[self.from..self.to]
     }
 
@@ -41,9 +42,25 @@ impl Lent {
         self.bytes[self.from..self.to].copy_from_slice(image);
     }
 
-    fn guards_hold(&self) -> bool {
+    pub fn guards_hold(&self) -> bool {
         let whole = |guard: &[u8]| guard.iter().all(|&byte| byte == GUARD_BYTE);
         whole(&self.bytes[..self.from]) && whole(&self.bytes[self.to..])
+    }
+
+    /// A sound table; the fresh one as the port itself writes it, over bytes that say nothing.
+    pub fn table(kernel: &Kernel, shift: usize) -> Lent {
+        if *kernel != Kernel::fresh() {
+            return Lent::new(&kernel.encode(), shift);
+        }
+        let mut lent = Lent::new(&[0xA5; IMAGE], shift);
+        lent.freshen();
+        lent
+    }
+
+    /// The port's answer where it is to write the fresh image.
+    pub fn freshen(&mut self) -> u32 {
+        let image = &mut self.bytes[self.from..self.to];
+        unsafe { ntk_fresh(image.as_mut_ptr(), image.len()) }
     }
 
     fn step(&mut self, call: Call) -> NtkOutcome {
@@ -58,6 +75,10 @@ unsafe fn step(call: Call, image: *mut u8, length: usize) -> NtkOutcome {
 }
 
 /// Null with length 0.
+pub fn freshen_null() -> u32 {
+    unsafe { ntk_fresh(std::ptr::null_mut(), 0) }
+}
+
 pub fn step_on_null(call: Call) -> NtkOutcome {
     unsafe { step(call, std::ptr::null_mut(), 0) }
 }

@@ -64,6 +64,11 @@ impl Random {
         }
     }
 
+    /// A quantum above 0: mostly a small one, so that turns end.
+    pub fn quantum(&mut self) -> u16 {
+        self.pick(&[1, 1, 2, 2, 3, 99, 100, 256, 65534, 65535])
+    }
+
     /// A tick counter: 0, just before the wrap, or any.
     pub fn tick(&mut self) -> u32 {
         match self.below(4) {

@@ -12,11 +12,29 @@ pub struct NtkOutcome {
 
 /// # Safety
 /// `image` points to `length` bytes, or `length` is 0.
+unsafe fn lent(image: *mut u8, length: usize) -> &'static mut [u8] {
+    if length == 0 { &mut [] } else { std::slice::from_raw_parts_mut(image, length) }
+}
+
+/// # Safety
+/// As `lent`.
+#[no_mangle]
+pub unsafe extern "C" fn ntk_fresh(image: *mut u8, length: usize) -> u32 {
+    let (bytes, fresh) = (lent(image, length), Kernel::fresh().encode());
+    if bytes.len() != fresh.len() {
+        return 15;
+    }
+    bytes.copy_from_slice(&fresh);
+    0
+}
+
+/// # Safety
+/// As `lent`.
 #[no_mangle]
 pub unsafe extern "C" fn ntk_step(
     kind: u8, a: u32, b: u32, c: u32, d: u32, e: u32, f: u32, image: *mut u8, length: usize,
 ) -> NtkOutcome {
-    let bytes = if length == 0 { &mut [] } else { std::slice::from_raw_parts_mut(image, length) };
+    let bytes = lent(image, length);
     let mut kernel = match Kernel::judge(bytes) {
         Ok(kernel) => kernel,
         Err(_) => return NtkOutcome { answer: 15, runs: 0 },

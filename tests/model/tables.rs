@@ -6,6 +6,7 @@ use crate::random::Random;
 pub fn table(random: &mut Random) -> Kernel {
     let mut kernel = Kernel::fresh();
     kernel.tick = random.tick();
+    kernel.default_quantum = random.quantum();
     let crowd = random.pick(&[10, 40, 80, 100]);
     let levels: Vec<u8> = (0..random.between(1, 5)).map(|_| random.pick(&[0, 1, 2, 5, 20, 40, 61, 62])).collect();
     for t in 0..TASKS {
@@ -46,7 +47,7 @@ pub fn table(random: &mut Random) -> Kernel {
 }
 
 fn some_task(random: &mut Random, levels: &[u8]) -> Task {
-    let quantum = random.pick(&[0, 0, 1, 2, 3, 100, 65535]);
+    let quantum = random.quantum();
     let left = random.pick(&[0, 1, quantum, quantum]).min(quantum);
     let suspends = random.pick(&[0, 0, 0, 0, 0, 0, 1, 2, MOST - 1, MOST]);
     let base = random.pick(levels);
@@ -149,7 +150,7 @@ pub fn arrange(random: &mut Random, kernel: &mut Kernel) {
 pub fn start(random: &mut Random) -> Kernel {
     match random.below(10) {
         0..=5 => Kernel::fresh(),
-        6 | 7 => Kernel { tick: random.tick(), ..Kernel::fresh() },
+        6 | 7 => Kernel { tick: random.tick(), default_quantum: random.quantum(), ..Kernel::fresh() },
         _ => table(random),
     }
 }

@@ -36,8 +36,9 @@ static const struct column columns[] = {
     {NTK_FIELD_GROUP_FLAGS, 8, 840, 4},
     {NTK_FIELD_QUEUE_SLOT, 1312, 872, 1},
     {NTK_FIELD_TICK, 1, 2184, 4},
-    {NTK_FIELD_DEPTH, 1, 2188, 1},
-    {NTK_FIELD_RUNNING, 1, 2189, 1},
+    {NTK_FIELD_DEFAULT_QUANTUM, 1, 2188, 2},
+    {NTK_FIELD_DEPTH, 1, 2190, 1},
+    {NTK_FIELD_RUNNING, 1, 2191, 1},
 };
 
 enum { COLUMNS = sizeof columns / sizeof columns[0] };

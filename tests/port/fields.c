@@ -1,5 +1,5 @@
-/* ntk_read beside a decoder of the bytes: every field of every number, after each of some calls and on bytes at random; then what is
- * unknown, and wrong lengths. */
+/* ntk_read beside a decoder of the bytes: every field of every number, of the fresh image, after each of some calls and on bytes at random;
+ * then what is unknown, and wrong lengths. */
 #include <stdio.h>
 #include <string.h>
 
@@ -53,6 +53,9 @@ static const struct call calls[] = {
     {NTK_LOCK, {0}, NTK_DONE},
     {NTK_TASK_CREATE, {0, 62, 65535}, NTK_DONE},
     {NTK_TASK_CREATE, {31, 0, 1}, NTK_DONE},
+    {NTK_SET_DEFAULT_QUANTUM, {0x1234}, NTK_DONE},
+    {NTK_TASK_CREATE, {30, 62, 0}, NTK_DONE},
+    {NTK_TASK_DELETE, {30}, NTK_DONE},
     {NTK_TASK_CREATE, {5, 10, 300}, NTK_DONE},
     {NTK_UNLOCK, {0}, NTK_DONE},
     {NTK_MUTEX_CREATE, {0}, NTK_DONE},
@@ -106,6 +109,7 @@ static void play(void)
 /* What the calls have brought about, in the header's own words. */
 static void after_play(void)
 {
+    expect("the default quantum", 0, 0, 0x1234, ntk_read(NTK_FIELD_DEFAULT_QUANTUM, 0, table, NTK_IMAGE_SIZE));
     expect("task 31's state", 0, 31, NTK_WAITS_FLAGS, ntk_read(NTK_FIELD_TASK_STATE, 31, table, NTK_IMAGE_SIZE));
     expect("task 31's mask", 0, 31, 4294967295u, ntk_read(NTK_FIELD_TASK_MASK, 31, table, NTK_IMAGE_SIZE));
     expect("task 31's consuming", 0, 31, 1, ntk_read(NTK_FIELD_TASK_CONSUME, 31, table, NTK_IMAGE_SIZE));
@@ -182,6 +186,8 @@ static void unknown(void)
 int main(void)
 {
     read_all("of zeroed memory");
+    expect("ntk_fresh", 0, 0, NTK_DONE, ntk_fresh(table, NTK_IMAGE_SIZE));
+    read_all("of the fresh image");
     play();
     after_play();
     at_random();

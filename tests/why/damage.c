@@ -12,7 +12,7 @@ enum { EVERY = 1000, RULES = 256, DAMAGES = 400 };
 
 /* No bytes break these: their columns have just that width. */
 static const uint32_t unbreakable[] = {
-    NTK_RULE_TASK_QUANTUM, NTK_RULE_TASK_LEFT, NTK_RULE_SEMAPHORE_COUNTS, NTK_RULE_GROUP_FLAGS, NTK_RULE_TICK_RANGE,
+    NTK_RULE_TASK_QUANTUM, NTK_RULE_TASK_LEFT, NTK_RULE_SEMAPHORE_COUNTS, NTK_RULE_GROUP_FLAGS, NTK_RULE_TICK_RANGE, NTK_RULE_DEFAULT_MOST,
 };
 
 static uint8_t sound[NTK_IMAGE_SIZE], image[NTK_IMAGE_SIZE + 1];
@@ -178,7 +178,8 @@ static void play(const char *name)
         exit(2);
     }
     reel = reel_of(file);
-    memset(sound, 0, sizeof sound);
+    if (ntk_fresh(sound, sizeof sound) != NTK_DONE)
+        wrong++;
     while (reel_next(&reel, &call) == GOT_CALL) {
         const uint32_t *n = call.numbers;
 

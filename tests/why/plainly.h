@@ -86,6 +86,7 @@ static int kept_by_task(uint32_t rule, uint32_t i, const uint8_t *image)
     case NTK_RULE_TASK_DELAY_MARK: return state != NTK_DELAYED || marked == 1;
     case NTK_RULE_TASK_LEFT_MOST: return of(NTK_FIELD_TASK_LEFT, i, image) <= of(NTK_FIELD_TASK_QUANTUM, i, image);
     case NTK_RULE_TASK_ASKS: return !flags || mask != 0;
+    case NTK_RULE_TASK_TURN: return use != 1 || of(NTK_FIELD_TASK_QUANTUM, i, image) != 0;
     case NTK_RULE_TASK_WORKED: return of(NTK_FIELD_TASK_WORK, i, image) == afresh(i, image);
     case NTK_RULE_TASK_NOT_DUE: return marked != 1 || due != of(NTK_FIELD_TICK, 0, image);
     default: return 1;
@@ -158,6 +159,7 @@ static int kept_by_numbers(uint32_t rule, const uint8_t *image)
     case NTK_RULE_RUNNING_RANGE: return running <= NTK_TASKS;
     case NTK_RULE_RUNNING_FIRST: return depth != 0 || running == image[SLOTS_FROM];
     case NTK_RULE_RUNNING_ABLE: return depth == 0 || running == 0 || able(running - 1, image);
+    case NTK_RULE_DEFAULT_LEAST: return of(NTK_FIELD_DEFAULT_QUANTUM, 0, image) != 0;
     default: return 1;
     }
 }

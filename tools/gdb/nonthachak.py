@@ -34,8 +34,9 @@ COLUMNS = [
     (840, 4, 8, "group flags"),
     (872, 32, 41, "queue"),
     (2184, 4, 1, "tick"),
-    (2188, 1, 1, "depth"),
-    (2189, 1, 1, "running"),
+    (2188, 2, 1, "default quantum"),
+    (2190, 1, 1, "depth"),
+    (2191, 1, 1, "running"),
 ]
 SIZE = COLUMNS[-1][0] + COLUMNS[-1][1] * COLUMNS[-1][2]
 
@@ -65,6 +66,11 @@ class Image:
 
     def get(self, what, number=0):
         return int.from_bytes(self.bytes_of(what, number), "little")
+
+    def quantum(self, what, number=0, used=1):
+        """A quantum, which only a free task has at 0."""
+        quantum = self.get(what, number)
+        return "0?" if used == 1 and quantum == 0 else quantum
 
     def count(self, what):
         return self.places[what][2]
@@ -103,7 +109,8 @@ def state_of(image, number):
 
 def task_row(image, number, shown):
     due = image.get("task due", number) if image.get("task marked", number) else "-"
-    fields = [image.get("task " + what, number) for what in ("base", "work", "suspend", "quantum", "left")]
+    fields = [image.get("task " + what, number) for what in ("base", "work", "suspend")]
+    fields += [image.quantum("task quantum", number, image.get("task used", number)), image.get("task left", number)]
     return [shown] + fields + [due, state_of(image, number), named(OUTCOMES, image.get("task outcome", number))]
 
 
@@ -136,7 +143,8 @@ def lines_of(rows, numbers):
 
 
 def told(image):
-    yield "tick %d, lock depth %d, running %s" % (image.get("tick"), image.get("depth"), image.task("running"))
+    single = (image.get("tick"), image.quantum("default quantum"), image.get("depth"), image.task("running"))
+    yield "tick %d, default quantum %s, lock depth %d, running %s" % single
     yield "able: %s" % image.queue(ABLE)
     for owner, heads, numbers, row_of in SECTIONS:
         rows = [row_of(image, number, shown) for number, shown in image.numbers(owner)]

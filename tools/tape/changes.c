@@ -137,6 +137,7 @@ static const struct family families[] = {
 
 static const struct trait singles[] = {
     {"tick counter ", 1, {NTK_FIELD_TICK}, say_number},
+    {"default quantum ", 1, {NTK_FIELD_DEFAULT_QUANTUM}, say_number},
     {"lock depth ", 1, {NTK_FIELD_DEPTH}, say_number},
     {"running ", 1, {NTK_FIELD_RUNNING}, say_task},
 };

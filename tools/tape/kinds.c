@@ -36,6 +36,7 @@ const struct kind kinds[] = {
     {NTK_LOCK, "lock", "lock", {NULL}},
     {NTK_UNLOCK, "unlock", "unlock", {NULL}},
     {NTK_TICK, "tick", "tick", {NULL}},
+    {NTK_SET_DEFAULT_QUANTUM, "set_default_quantum", "set the default quantum to %", {&quantum}},
     {NTK_SEMAPHORE_CREATE, "semaphore_create", "create semaphore %, count %", {&number, &count}},
     {NTK_SEMAPHORE_DELETE, "semaphore_delete", "delete semaphore %, %", {&number, &force}},
     {NTK_SEMAPHORE_WAIT, "semaphore_wait", "wait for semaphore %, %, %", {&number, &block, &limit}},

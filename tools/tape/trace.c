@@ -80,7 +80,7 @@ void trace(FILE *tape, const char *name, FILE *out, int with_table)
     struct call call;
     enum got got;
 
-    memset(image, 0, sizeof image);
+    ntk_fresh(image, sizeof image);
     while ((got = reel_next(&reel, &call)) == GOT_CALL) {
         const uint32_t *n = call.numbers;
         uint8_t kind = reel.bytes[0];

@@ -43,6 +43,7 @@ static const struct shown group_fields[] = {{NTK_FIELD_GROUP_IN_USE, "in use"}, 
 
 static const struct shown single_fields[] = {
     {NTK_FIELD_TICK, "tick counter"},
+    {NTK_FIELD_DEFAULT_QUANTUM, "default quantum"},
     {NTK_FIELD_DEPTH, "lock depth"},
     {NTK_FIELD_RUNNING, "running task plus 1"},
 };
@@ -54,14 +55,14 @@ static const struct owner {
     const struct shown *fields;
     size_t count;
 } owners[] = {
-    {NTK_RULE_TASK_USED, NTK_RULE_TASK_ASKS, "task", task_fields, COUNT(task_fields)},
+    {NTK_RULE_TASK_USED, NTK_RULE_TASK_TURN, "task", task_fields, COUNT(task_fields)},
     {NTK_RULE_SEMAPHORE_USED, NTK_RULE_SEMAPHORE_FREE, "semaphore", semaphore_fields, COUNT(semaphore_fields)},
     {NTK_RULE_MUTEX_USED, NTK_RULE_MUTEX_HELD, "mutex", mutex_fields, COUNT(mutex_fields)},
     {NTK_RULE_GROUP_USED, NTK_RULE_GROUP_FREE, "group", group_fields, COUNT(group_fields)},
     {NTK_RULE_WAIT_USED, NTK_RULE_WAIT_APART, "task", task_fields, COUNT(task_fields)},
     {NTK_RULE_HOLDER_USED, NTK_RULE_HOLDER_USED, "mutex", mutex_fields, COUNT(mutex_fields)},
     {NTK_RULE_TASK_WORKED, NTK_RULE_TASK_NOT_DUE, "task", task_fields, COUNT(task_fields)},
-    {NTK_RULE_TICK_RANGE, NTK_RULE_RUNNING_ABLE, NULL, single_fields, COUNT(single_fields)},
+    {NTK_RULE_TICK_RANGE, NTK_RULE_DEFAULT_MOST, NULL, single_fields, COUNT(single_fields)},
 };
 
 static void add_queue_name(struct line *line, unsigned long queue)

@@ -37,6 +37,7 @@ pub fn serve_task(s: &mut [u8], c: rules::Call) -> u8
             tick::tick_once(s);
             0
         }
+        rules::Call::SetDefaultQuantum(n) => task::quantum::set_default(s, n),
         rules::Call::SemaphoreCreate(i, count) => semaphore::create(s, i, count),
         rules::Call::SemaphoreDelete(i, force) => semaphore::delete(s, i, force),
         rules::Call::SemaphoreWait(i, block, limit) => semaphore::wait(s, i, block, limit),

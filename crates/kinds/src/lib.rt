@@ -66,6 +66,7 @@ pub fn row_of(k: u8, numbers: Numbers) -> Row
         0x09 => Row::Has(rules::Call::Lock, 0),
         0x0A => Row::Has(rules::Call::Unlock, 0),
         0x0B => Row::Has(rules::Call::Tick, 0),
+        0x0D => Row::Has(rules::Call::SetDefaultQuantum(a), 0x2),
         0x10 => Row::Has(rules::Call::SemaphoreCreate(a, b), 0x41),
         0x11 => Row::Has(rules::Call::SemaphoreDelete(a, b), 0x11),
         0x12 => Row::Has(rules::Call::SemaphoreWait(a, b, c), 0x411),

@@ -186,6 +186,7 @@ fn main() {
         return;
     }
     let mut image = [0u8; table::layout::IMAGE_SIZE];
+    table::fresh::write_fresh(&mut image);
     let mut input = [0u8; 4096];
     let mut lines = [0u8; 24576];
     let output = play_all(tape, &mut image, &mut input, &mut lines);

@@ -6,8 +6,9 @@ use mathlib.Core.Logic.{_⊎_, inl, inr}
 use Prim.Native.Nat.{ℕ}
 use lib.ListN.{length, take, drop}
 use lib.Seq.{take-length, drop-length}
-use Rattle.rules.specs.Sizes.{beyondRange, byInterrupt, notSound}
-use Rattle.rules.specs.Table.{Table}
+use borrow.Author.Tests.{eq-eqb, ne-eqb}
+use Rattle.rules.specs.Sizes.{done, beyondRange, byInterrupt, notSound}
+use Rattle.rules.specs.Table.{Table, freshTable}
 use Rattle.rules.specs.Step.{Outcome, forInterrupts, answerTo, answer, effect, serve, unsound, changes}
 use Rattle.rules.specs.Kinds.{isInterrupt, plainKind, reading}
 use Rattle.rules.specs.declared.Call.{Call}
@@ -17,11 +18,12 @@ use Rattle.kinds.specs.declared.Row.{Row}
 use Rattle.kinds.specs.declared.Row.the-variants.{Has, Lacks}
 use Rattle.kinds.specs.Row.{rowOf}
 use Rattle.kinds.specs.Interrupts.{mayMake, barred, letIn, Agrees, reading-agrees, let-in-has, let-in-lacks}
-use Rattle.table.specs.Image.{Image, view, imageOf}
+use Rattle.laws.specs.keeps.Sounds.{fresh-sound}
+use Rattle.table.specs.Image.{Image, imageSize, view, imageOf}
 use Rattle.rules.specs.Tape.{Bytes}
-use Rattle.table.specs.Written.{view-image}
+use Rattle.table.specs.Written.{view-image, one-image}
 use Rattle.service.specs.Served.{Served}
-use Rattle.port.specs.Step.{plainly, bytesAfter, Gives}
+use Rattle.port.specs.Step.{plainly, bytesAfter, Gives, Freshened}
 
 -- ---- what is given
 
@@ -105,6 +107,16 @@ unfolding plainly
 gives-let-in kind numbers l m {c} image bytes e s f g =
     let (is, may) = let-in-has kind numbers e in
     gives-by (plain-by (view l) is) (gives-made c (isInterrupt kind) l m image bytes may s f g)
+
+-- ---- the fresh image
+
+pub fresh-wrong : {l : List ℕ} → (Image l → ⊥) → Freshened l notSound l
+fresh-wrong {l} h = let e = ne-eqb (length l) imageSize h in record { answer = rw e; bytes = rw e }
+
+pub fresh-right : {l m : List ℕ} → Image l → Image m → Bytes m → view m ≡ freshTable → Freshened l done m
+fresh-right {l} {m} h image bytes e =
+    let f = eq-eqb (length l) imageSize h in
+    record { answer = rw f; bytes = rw f (one-image fresh-sound m image bytes e) }
 
 -- ---- an image lent by its length
 

@@ -3,10 +3,11 @@ use mathlib.Core.Path.{_≡_, refl, sym, ap, subst, _∙_}
 use mathlib.Core.Logic.{inl, inr}
 use mathlib.Core.Bool.{Bool, true, false, cond, true≢false}
 use mathlib.Core.List.{List, [], _∷_, _++_}
-use Prim.Native.Nat.{ℕ, zero, suc, _<_}
+use Prim.Native.Nat.{ℕ, _<_}
 use native.Mathlib.Decide.{ℕ-discrete}
 use native.Mathlib.Omega.{arith}
-use lib.ListN.{length, getD, replicate}
+use lib.ListN.{length}
+use borrow.Author.Tests.{eq-eqb}
 use Rattle.rules.specs.Sizes.{notSound}
 use Rattle.rules.specs.Table.{Table}
 use Rattle.rules.specs.Sound.{Sound, isSound}
@@ -22,13 +23,13 @@ use Rattle.laws.specs.keeps.Sounds.{step-serve, serve-small, fresh-sound}
 use Rattle.laws.specs.keeps.Always.{always-from}
 use Rattle.laws.specs.order.Demand.{demand-sound}
 use Rattle.table.specs.Image.{Image, imageSize, view, imageOf}
-use Rattle.table.specs.Shape.{fresh-view}
-use Rattle.table.specs.Written.{sound-fits, image-length, image-view, view-image, one-image}
+use Rattle.table.specs.Shape.{zeros-view}
+use Rattle.table.specs.Written.{sound-fits, image-length, image-view, view-image}
 use Rattle.port.specs.Step.{said, plainly, outcomeOf, serveOf, bytesAfter, Gives}
 use Rattle.port.specs.Ways.{rules-sound, step-wrong, step-right, step-unsound, step-sound, serve-right}
 use Rattle.laws.specs.numbers.Tape.{BoundedIn}
 use Rattle.port.specs.Reads.{PortCall, readingOf, ruleOf, madeIn, madeBy, madeByAll}
-use Rattle.port.specs.ByteTheorem.{Called, byStep, byServe, Calls, none, more, AsRules, Follows, FromSound, FromFresh, NoImage, Fifteen, FifteenExactly}
+use Rattle.port.specs.ByteTheorem.{Called, byStep, byServe, Calls, none, more, AsRules, Follows, FromSound, FromFresh, NoImage, ZeroedIsNone, Fifteen, FifteenExactly}
 
 -- ---- a reading on a sound table
 
@@ -147,14 +148,15 @@ some-calls (p ∷ ps) l =
 pub from-sound : FromSound
 from-sound t s ps l calls = along calls s refl
 
-zeros-bytes : (n j : ℕ) → getD (replicate n 0) j 0 < 256
-zeros-bytes zero j = omega arith
-zeros-bytes (suc n) zero = omega arith
-zeros-bytes (suc n) (suc j) = zeros-bytes n j
-
--- From zeroed memory.
+-- From memory that `ntk_fresh` has written.
 pub from-fresh : FromFresh
-from-fresh ps l calls = along calls fresh-sound (one-image fresh-sound (replicate imageSize 0) refl (zeros-bytes imageSize) fresh-view)
+from-fresh k l x h f =
+    let e = eq-eqb (length k) imageSize h in
+    ((rw e at (f .answer)), λ ps m calls. along calls fresh-sound (rw e at (f .bytes)))
+
+-- Zeroed memory: its default quantum is 0.
+pub zeroed : ZeroedIsNone
+zeroed = inr λ t s e. omega (arith, s .settled .numbers .defaultLeast, ap (λ (u : Table). u .defaultQuantum) (sym zeros-view ∙ ap view e ∙ image-view (sound-fits s)))
 
 -- ---- 15
 

@@ -1,8 +1,8 @@
 -- Demand 3 of the bytes that C code holds, and exactly when they get 15. Statements alone; `ByteProof` proves each.
 --
 -- For a reader who knows no antt. C code calls `ntk_step` and `ntk_serve` on its bytes, again and again. `FromFresh` says what holds after
--- any such calls from zeroed memory, and `FromSound` from the image of any sound table. `FifteenExactly` says which bytes `ntk_step`
--- answers with 15. That antt accepts `ByteProof` is the proof; nothing is assumed.
+-- any such calls from memory that `ntk_fresh` has written, and `FromSound` from the image of any sound table. `FifteenExactly` says which bytes
+-- `ntk_step` answers with 15, and `ZeroedIsNone` that zeroed memory is of these. That antt accepts `ByteProof` is the proof; nothing is assumed.
 --
 -- The symbols: `x ≡ y` is "x equals y" and `x ≢ y` that it does not; `A → B` is "if A, then B", and `(x : ℕ) → ..` is "for each number x,
 -- .."; `A ⊎ B` is "A or B"; `A ↔ B` is "A exactly where B". `List ℕ` is a list of numbers, here of bytes. What a name means is said where it is
@@ -14,7 +14,7 @@ use mathlib.Core.Bool.{Bool}
 use mathlib.Core.List.{List, [], _∷_}
 use Prim.Native.Nat.{ℕ}
 use lib.ListN.{length, replicate}
-use Rattle.rules.specs.Sizes.{notSound}
+use Rattle.rules.specs.Sizes.{done, notSound}
 use Rattle.rules.specs.Table.{Table, freshTable}
 use Rattle.rules.specs.Sound.{Sound}
 use Rattle.rules.specs.Tape.{Bytes}
@@ -23,7 +23,7 @@ use Rattle.rules.specs.declared.Reading.the-variants.{Says, Unknown}
 use Rattle.laws.specs.order.Order.{run, OrderKept}
 use Rattle.laws.specs.order.Demand.{Demand3}
 use Rattle.table.specs.Image.{imageSize, view, imageOf}
-use Rattle.port.specs.Step.{outcomeOf, serveOf, Stepped, ServedPlainly}
+use Rattle.port.specs.Step.{outcomeOf, serveOf, Stepped, ServedPlainly, Freshened}
 use Rattle.port.specs.Reads.{PortCall, readingOf, ruleOf, madeByAll}
 
 -- ---- calls from C
@@ -72,15 +72,22 @@ pub record Follows (t : Table) (l : List ℕ) : Type 0 where
 abbrev pub FromSound : Type 0
 FromSound = (t : Table) → Sound t → (ps : List PortCall) (l : List ℕ) → Calls ps (imageOf t) l → Follows (run (madeByAll ps) t) l
 
--- The same from the fresh image, which is zeroed memory.
+-- The same from bytes k of the right length, whatever they are, once `ntk_fresh` has answered x and left the bytes l: it answers 0, and after
+-- any calls the bytes follow.
 abbrev pub FromFresh : Type 0
-FromFresh = (ps : List PortCall) (l : List ℕ) → Calls ps (replicate imageSize 0) l → Follows (run (madeByAll ps) freshTable) l
+FromFresh =
+    (k l : List ℕ) (x : ℕ) → length k ≡ imageSize → Freshened k x l
+    → (x ≡ done) × ((ps : List PortCall) (m : List ℕ) → Calls ps l m → Follows (run (madeByAll ps) freshTable) m)
 
 -- ---- 15
 
 -- "the table is not sound, or its image has the wrong length": the length is wrong, or the bytes are not the image of a sound table.
 abbrev pub NoImage : List ℕ → Type 0
 NoImage l = (length l ≢ imageSize) ⊎ ((t : Table) → Sound t → l ≢ imageOf t)
+
+-- Zeroed memory is no image: a board that does not call `ntk_fresh` is told so by its first `ntk_step`.
+abbrev pub ZeroedIsNone : Type 0
+ZeroedIsNone = NoImage (replicate imageSize 0)
 
 -- A call on the bytes l, of any length, is answered 15 exactly there; "With 15 the task to run is none", and no byte changes.
 pub record Fifteen (l : List ℕ) (x v : ℕ) (m : List ℕ) : Type 0 where

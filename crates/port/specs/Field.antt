@@ -78,7 +78,7 @@ abbrev pub queueFields : List Field
 queueFields = slots 0xE0 ∷ []
 
 abbrev pub singleFields : List Field
-singleFields = single 0xF0 (λ t. t .tick) ∷ single 0xF1 (λ t. t .depth) ∷ single 0xF2 (λ t. t .running) ∷ []
+singleFields = single 0xF0 (λ t. t .tick) ∷ single 0xF1 (λ t. t .depth) ∷ single 0xF2 (λ t. t .running) ∷ single 0xF3 (λ t. t .defaultQuantum) ∷ []
 
 abbrev pub fields : List Field
 fields = taskFields ++ (objectFields ++ (groupFields ++ (queueFields ++ singleFields)))

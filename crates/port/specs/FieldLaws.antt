@@ -175,6 +175,7 @@ all-small t s =
     and (λ i h. omega (arith, s .tick))
     and (λ i h. omega (arith, s .depth))
     and (λ i h. omega (arith, s .running))
+    and (λ i h. omega (arith, s .defaultQuantum))
     and tt
     )
 

@@ -5,8 +5,8 @@ use mathlib.Core.List.{List, [], _∷_}
 use Prim.Native.Nat.{ℕ, _/_, _%_}
 use lib.Dec.{eqb}
 use lib.ListN.{length}
-use Rattle.rules.specs.Sizes.{beyondRange, byInterrupt}
-use Rattle.rules.specs.Table.{Table}
+use Rattle.rules.specs.Sizes.{done, beyondRange, byInterrupt, notSound}
+use Rattle.rules.specs.Table.{Table, freshTable}
 use Rattle.rules.specs.Step.{Outcome, serve, unsound, changes}
 use Rattle.rules.specs.Kinds.{reading}
 use Rattle.rules.specs.Port.{portStep}
@@ -14,9 +14,9 @@ use Rattle.rules.specs.declared.Reading.{Reading}
 use Rattle.rules.specs.declared.Reading.the-variants.{Says, Unknown}
 use Rattle.table.specs.Image.{imageSize, view, imageOf}
 
--- The library's version, which the header has too: 1.2.0.
+-- The library's version, which the header has too: 1.3.0.
 abbrev pub version : ℕ
-version = 10200
+version = 10300
 
 -- Where the bytes are an image's by their length, what the rules say of the table that they show; else 15.
 unfoldable pub sized : (Table → Outcome) → List ℕ → Outcome
@@ -62,6 +62,11 @@ Stepped kind a b c d e f l = Gives (outcomeOf kind a b c d e f l) l
 
 abbrev pub ServedPlainly : (kind a b c d e f : ℕ) (l : List ℕ) (answer runs : ℕ) (m : List ℕ) → Type 0
 ServedPlainly kind a b c d e f l = Gives (serveOf kind a b c d e f l) l
+
+-- `ntk_fresh` answers 0 and leaves the image of the fresh table; bytes of another length it answers with 15 and leaves as they came.
+pub record Freshened (l : List ℕ) (x : ℕ) (m : List ℕ) : Type 0 where
+  pub answer : x ≡ cond (eqb (length l) imageSize) done notSound
+  pub bytes : m ≡ cond (eqb (length l) imageSize) (imageOf freshTable) l
 
 -- No two results meet the promise for one input: neither of `ntk_step` nor of `ntk_serve`.
 pub determined : {o : Outcome} {l : List ℕ} {x y v w : ℕ} {m n : List ℕ} → Gives o l x v m → Gives o l y w n → (x ≡ y) × (v ≡ w) × (m ≡ n)

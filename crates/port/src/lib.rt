@@ -6,6 +6,7 @@ ghost use Rattle.table.specs.Image.{Image, view};
 ghost use Rattle.port.specs.Step.{said, plainly, answerIn, runsIn, version, Gives, Stepped, ServedPlainly};
 use table::layout;
 
+pub mod fresh;
 pub mod read;
 pub mod reasons;
 
@@ -81,7 +82,7 @@ fn serve_plainly(kind: u8, a: u32, b: u32, c: u32, d: u32, e: u32, f: u32, image
 }
 
 // The version of this library: major, minor and patch, two digits for each of the last two. The header has the same.
-const VERSION: u32 = 10200;
+const VERSION: u32 = 10300;
 
 #[no_mangle]
 pub extern "C" fn ntk_version() -> u32
@@ -113,7 +114,7 @@ pub extern "C" fn ntk_step(
     split(serve_plainly(kind, a, b, c, d, e, f, image))
 }
 
-// The same without the test of the table: for an image that this library alone has changed since it was zeroed.
+// The same without the test of the table: for an image that this library alone has changed since `ntk_fresh` wrote it.
 #[no_mangle]
 pub extern "C" fn ntk_serve(
     kind: u8,

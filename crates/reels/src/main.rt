@@ -28,6 +28,7 @@ fn play_from(output: Output, image: &mut [u8], tape: &[u8]) -> Output
 
 fn play(output: Output, tape: &[u8]) -> Output {
     let mut image = [0u8; table::layout::IMAGE_SIZE];
+    table::fresh::write_fresh(&mut image);
     play_from(output, &mut image, tape)
 }
 
@@ -84,6 +85,26 @@ fn proved_cases(start: Output) -> Output {
         b"event flags, the card and then the clock\n",
         b"\x01\x01\x05\x00\x00\x30\x00\x00\x00\x00\x00\x32\x00\x01\x00\x00\x00\x00\x03\x00\x00\x00\x00\x01\xb3\x00\x01\x00\x00\x00\x01\xb3\x00\x02\x00\x00\x00\x01\x32\x00\x00\x00\x00\x00\x00\x03\x00\x00\x00\x02\x00",
     );
+    output = reel(
+        output,
+        b"quantum 0, the default 1 for both\n",
+        b"\x0d\x01\x00\x01\x01\x05\x00\x00\x01\x02\x05\x00\x00\x0b\x0b\x0b\x0b\x0b\x0b",
+    );
+    output = reel(
+        output,
+        b"quantum 0, the default 2 for both\n",
+        b"\x0d\x02\x00\x01\x01\x05\x00\x00\x01\x02\x05\x00\x00\x0b\x0b\x0b\x0b\x0b\x0b",
+    );
+    output = reel(
+        output,
+        b"quantum 0, the default 1 and then 2\n",
+        b"\x0d\x01\x00\x01\x01\x05\x00\x00\x0d\x02\x00\x01\x02\x05\x00\x00\x0b\x0b\x0b\x0b\x0b\x0b",
+    );
+    output = reel(
+        output,
+        b"the default 0, and by an interrupt\n",
+        b"\x0d\x00\x00\x8d\x01\x00\x0d\xff\xff",
+    );
     output
 }
 
@@ -127,6 +148,7 @@ fn run_only(start: Output) -> Output {
 // P5: a task is created, delays for 3 ticks, and three ticks come. No tape of a sensible length reaches the counter that it starts at.
 fn wrapping_mark(output: Output) -> Output {
     let mut image = [0u8; table::layout::IMAGE_SIZE];
+    table::fresh::write_fresh(&mut image);
     table::numbers::set_tick(&mut image, 4294967294);
     play_from(
         output.say(b"P5, a mark behind the wrap\n"),

@@ -6,13 +6,14 @@ use Prim.Native.Nat.{ℕ}
 use lib.ListN.{replicate}
 use Rattle.queue.specs.Slots.{firstAt, later, push, pull, opened, closed}
 use Rattle.queue.specs.Order.{count, mayPrecede, fits, isOrdered}
-use Rattle.rules.specs.Sound.{each, isShaped, marksIn, isTaskInRange, isNoTask, isNoSemaphore, isNoMutex, isNoGroup, asksIn, isSoundTask, isSoundSemaphore, isSoundMutex, isSoundGroup, mayWait, isSoundWait, eachOf, isSoundObjects, isSoundQueues, isWorkedOut, isSoundWithin, isSoundRuns, isSound}
+use Rattle.rules.specs.Sound.{each, isShaped, marksIn, isTaskInRange, isNoTask, isNoSemaphore, isNoMutex, isNoGroup, asksIn, isSoundTask, isSoundSemaphore, isSoundMutex, isSoundGroup, mayWait, isSoundWait, eachOf, isSoundObjects, isSoundQueues, isWorkedOut, isSoundNumbers, isSoundWithin, isSoundRuns, isSound}
 use Rattle.rules.specs.Family.{ofState, placeOf}
 use Rattle.rules.specs.Sizes.{mostCount, delayed, plain, timedOut}
 use Rattle.rules.specs.Chain.{leads, smallest, fresh}
 use Rattle.rules.specs.Walk.{walkOn}
 use Rattle.rules.specs.Table.{Table, freshTable, taskOf, isAble, works, groupOf, semaphoreQueue, firstIn, written, withTick, holderOf}
 use Rattle.rules.specs.Move.{leave, join, stays, put, rotate, next, freshIn, ended, endedAll, chosen, peerBelow}
+use Rattle.rules.specs.Quantum.{quantumOf, defaultAnswer, setDefault}
 use Rattle.rules.specs.Task.{createAnswer, create, suspendAnswer, suspend, resumeAnswer, resume}
 use Rattle.rules.specs.Time.{delayAnswer, delay}
 use Rattle.rules.specs.Lock.{lockAnswer, lock, unlockAnswer, unlock}
@@ -27,7 +28,7 @@ use Rattle.rules.specs.Step.{Outcome, answerTo, changeBy, forInterrupts,
 use Rattle.rules.specs.Kinds.{toldIn, widths, ofKind, reading, spelled}
 use Rattle.rules.specs.Tape.{little, sum, numbers, bodyLength, callIn, decimal, runner, line, printedOf, printed, tape}
 use Rattle.rules.specs.declared.Call.{Call}
-use Rattle.rules.specs.declared.Call.the-variants.{TaskCreate, Suspend, Resume, Delay, Lock, Unlock, Tick, SemaphoreCreate, SemaphoreWait, SemaphorePost, MutexCreate, MutexWait, MutexPost, GroupCreate, GroupWait, GroupPost}
+use Rattle.rules.specs.declared.Call.the-variants.{TaskCreate, Suspend, Resume, Delay, Lock, Unlock, Tick, SetDefaultQuantum, SemaphoreCreate, SemaphoreWait, SemaphorePost, MutexCreate, MutexWait, MutexPost, GroupCreate, GroupWait, GroupPost}
 
 -- ---- calls that tasks make, one after another, on sound tables
 
@@ -117,6 +118,17 @@ card t = serve (GroupPost 0 1 1) true t
 abbrev clock : Table → Outcome
 clock t = serve (GroupPost 0 2 1) true t
 
+-- Tasks 1 and 2 of one level, both created with 0: after the default was set to a, and then to b.
+abbrev pub film-house : ℕ → ℕ → Table
+film-house a b = after freshTable (SetDefaultQuantum a ∷ TaskCreate 1 5 0 ∷ SetDefaultQuantum b ∷ TaskCreate 2 5 0 ∷ [])
+
+-- Who runs after each of six ticks.
+abbrev six-ticks : Table → List ℕ
+six-ticks t = runs t (many 6 Tick)
+
+abbrev ran : (a b c d e f : ℕ) → List ℕ
+ran a b c d e f = written a ∷ written b ∷ written c ∷ written d ∷ written e ∷ written f ∷ []
+
 -- ---- the statement
 
 pub record Bench : Type 0 where
@@ -164,9 +176,17 @@ pub record Bench : Type 0 where
   pub card-first : (card reader-waits .answer ≡ 0) × (card reader-waits .runs ≡ 0) × (clock (card reader-waits .table) .runs ≡ written 1) × (groupOf (clock (card reader-waits .table) .table) 0 .flags ≡ 0)
   -- "against the flags as the post left them .. turned over together": both wake, and the flag is clear.
   pub both-wake : (taskOf (card two-wait .table) 1 .state ≡ plain) × (taskOf (card two-wait .table) 2 .state ≡ plain) × (groupOf (card two-wait .table) 0 .flags ≡ 0)
+  -- "Film houses leave the quantum at 0, and their tasks hog a level": they take turns, each by the default of the moment of its creation.
+  pub film-ones : six-ticks (film-house 1 1) ≡ ran 2 1 2 1 2 1
+  pub film-twos : six-ticks (film-house 2 2) ≡ ran 1 2 2 1 1 2
+  pub film-both : six-ticks (film-house 1 2) ≡ ran 2 2 1 2 2 1
+  pub film-set : taskOf (film-house 1 2) 1 .quantum ≡ 1
+  pub film-fresh : taskOf (after freshTable (TaskCreate 1 5 0 ∷ [])) 1 .left ≡ 100
+  -- "setting the default to 0 gets 4"
+  pub film-refused : answers freshTable (SetDefaultQuantum 0 ∷ SetDefaultQuantum 65536 ∷ SetDefaultQuantum 65535 ∷ SetDefaultQuantum 1 ∷ []) ≡ 4 ∷ 4 ∷ 0 ∷ 0 ∷ []
 
 pub bench : Bench
-unfolding firstAt later push pull opened closed leads smallest fresh walkOn freshTable isAble placeOf works leave join stays put rotate holderOf next freshIn ended endedAll chosen peerBelow createAnswer create suspendAnswer suspend resumeAnswer resume delayAnswer delay lockAnswer lock unlockAnswer unlock objectCreateAnswer blocked waits taken semaphore.create semaphore.waitAnswer semaphore.wait semaphore.postAnswer semaphore.post mutex.create mutex.waitAnswer mutex.wait mutex.postAnswer handed released mutex.post meeting isMet consumed woken group.create group.waitAnswer group.wait group.postAnswer group.post turned dueEnded dueBelow ticked answerTo changeBy forInterrupts answer effect serve toldIn widths ofKind reading spelled little sum numbers bodyLength callIn decimal runner line printedOf printed tape step count mayPrecede fits isOrdered each isShaped marksIn isTaskInRange isNoTask isNoSemaphore isNoMutex isNoGroup asksIn isSoundTask isSoundSemaphore isSoundMutex isSoundGroup mayWait ofState eachOf isSoundWait isSoundObjects isSoundQueues isWorkedOut isSoundWithin isSoundRuns isSound after answers runs
+unfolding firstAt later push pull opened closed leads smallest fresh walkOn freshTable isAble placeOf works leave join stays put rotate holderOf next freshIn ended endedAll chosen peerBelow quantumOf defaultAnswer setDefault createAnswer create suspendAnswer suspend resumeAnswer resume delayAnswer delay lockAnswer lock unlockAnswer unlock objectCreateAnswer blocked waits taken semaphore.create semaphore.waitAnswer semaphore.wait semaphore.postAnswer semaphore.post mutex.create mutex.waitAnswer mutex.wait mutex.postAnswer handed released mutex.post meeting isMet consumed woken group.create group.waitAnswer group.wait group.postAnswer group.post turned dueEnded dueBelow ticked answerTo changeBy forInterrupts answer effect serve toldIn widths ofKind reading spelled little sum numbers bodyLength callIn decimal runner line printedOf printed tape step count mayPrecede fits isOrdered each isShaped marksIn isTaskInRange isNoTask isNoSemaphore isNoMutex isNoGroup asksIn isSoundTask isSoundSemaphore isSoundMutex isSoundGroup mayWait ofState eachOf isSoundWait isSoundObjects isSoundQueues isWorkedOut isSoundNumbers isSoundWithin isSoundRuns isSound after answers runs
 bench =
     record {
       p1 = refl;
@@ -197,4 +217,10 @@ bench =
       clock-first = (refl, refl, refl, refl);
       card-first = (refl, refl, refl, refl);
       both-wake = (refl, refl, refl);
+      film-ones = refl;
+      film-twos = refl;
+      film-both = refl;
+      film-set = refl;
+      film-fresh = refl;
+      film-refused = refl;
     }

@@ -11,7 +11,7 @@ use borrow.Author.Tests.{ne-eqb, leb-true}
 use Rattle.queue.specs.Order.{All, none, more}
 use Rattle.rules.specs.Kinds.{Kind, kinds, toldIn, widths, ofKind, reading, spelled, kindOf, numbersOf}
 use Rattle.rules.specs.declared.Call.{Call}
-use Rattle.rules.specs.declared.Call.the-variants.{TaskCreate, TaskDelete, ChangePriority, Suspend, Resume, Yield, Delay, DelayResume, Lock, Unlock, Tick, SemaphoreCreate, SemaphoreDelete, SemaphoreWait, SemaphorePost, SemaphoreAbort, MutexCreate, MutexDelete, MutexWait, MutexPost, MutexAbort, GroupCreate, GroupDelete, GroupWait, GroupPost, GroupAbort}
+use Rattle.rules.specs.declared.Call.the-variants.{TaskCreate, TaskDelete, ChangePriority, Suspend, Resume, Yield, Delay, DelayResume, Lock, Unlock, Tick, SetDefaultQuantum, SemaphoreCreate, SemaphoreDelete, SemaphoreWait, SemaphorePost, SemaphoreAbort, MutexCreate, MutexDelete, MutexWait, MutexPost, MutexAbort, GroupCreate, GroupDelete, GroupWait, GroupPost, GroupAbort}
 use Rattle.rules.specs.declared.Reading.the-variants.{Says}
 
 -- ---- what is told of a kind
@@ -94,6 +94,7 @@ said-back (DelayResume i) interrupt = refl
 said-back Lock interrupt = refl
 said-back Unlock interrupt = refl
 said-back Tick interrupt = refl
+said-back (SetDefaultQuantum n) interrupt = refl
 said-back (SemaphoreCreate s n) interrupt = refl
 said-back (SemaphoreDelete s force) interrupt = refl
 said-back (SemaphoreWait s block limit) interrupt = refl

@@ -5,7 +5,7 @@ use Prim.Native.Nat.{ℕ, _-_}
 use lib.Dec.{eqb, leb}
 use lib.ListN.{getD, drop}
 use Rattle.rules.specs.declared.Call.{Call}
-use Rattle.rules.specs.declared.Call.the-variants.{TaskCreate, TaskDelete, ChangePriority, Suspend, Resume, Yield, Delay, DelayResume, Lock, Unlock, Tick, SemaphoreCreate, SemaphoreDelete, SemaphoreWait, SemaphorePost, SemaphoreAbort, MutexCreate, MutexDelete, MutexWait, MutexPost, MutexAbort, GroupCreate, GroupDelete, GroupWait, GroupPost, GroupAbort}
+use Rattle.rules.specs.declared.Call.the-variants.{TaskCreate, TaskDelete, ChangePriority, Suspend, Resume, Yield, Delay, DelayResume, Lock, Unlock, Tick, SetDefaultQuantum, SemaphoreCreate, SemaphoreDelete, SemaphoreWait, SemaphorePost, SemaphoreAbort, MutexCreate, MutexDelete, MutexWait, MutexPost, MutexAbort, GroupCreate, GroupDelete, GroupWait, GroupPost, GroupAbort}
 use Rattle.rules.specs.declared.Reading.{Reading}
 use Rattle.rules.specs.declared.Reading.the-variants.{Says, Unknown}
 
@@ -30,7 +30,8 @@ byAll byte widths call = record { byte = byte; widths = widths; interrupts = tru
 -- each); 06 yield; 07 delay (4 bytes); 08 delay resume (number); 09 lock; 0A unlock; 0B tick; 10 semaphore create (number, count 4 bytes);
 -- 11 delete (number, force); 12 wait (number, block, limit 4 bytes); 13 post; 14 abort (number each); 20 mutex create (number); 21 delete,
 -- 22 wait as 11, 12; 23 post; 24 abort (number each)." And of groups of flags 30 create (number, flags 4 bytes); 31 delete as 11; 32 wait
--- (number, block, limit 4 bytes, mask 4 bytes, test, consume); 33 post (number, mask 4 bytes, 1 set or 0 clear); 34 abort (number).
+-- (number, block, limit 4 bytes, mask 4 bytes, test, consume); 33 post (number, mask 4 bytes, 1 set or 0 clear); 34 abort (number). And 0D
+-- default quantum (2 bytes).
 abbrev pub kinds : List Kind
 kinds =
     byTasks 0x01 (1 ∷ 1 ∷ 2 ∷ []) (λ n. TaskCreate (n 0) (n 1) (n 2))
@@ -44,6 +45,7 @@ kinds =
     ∷ byTasks 0x09 [] (λ n. Lock)
     ∷ byTasks 0x0A [] (λ n. Unlock)
     ∷ byAll 0x0B [] (λ n. Tick)
+    ∷ byTasks 0x0D (2 ∷ []) (λ n. SetDefaultQuantum (n 0))
     ∷ byTasks 0x10 (1 ∷ 4 ∷ []) (λ n. SemaphoreCreate (n 0) (n 1))
     ∷ byTasks 0x11 (1 ∷ 1 ∷ []) (λ n. SemaphoreDelete (n 0) (n 1))
     ∷ byTasks 0x12 (1 ∷ 1 ∷ 4 ∷ []) (λ n. SemaphoreWait (n 0) (n 1) (n 2))
@@ -108,6 +110,7 @@ spelled (DelayResume i) = 0x08 ∷ i ∷ []
 spelled Lock = 0x09 ∷ []
 spelled Unlock = 0x0A ∷ []
 spelled Tick = 0x0B ∷ []
+spelled (SetDefaultQuantum n) = 0x0D ∷ n ∷ []
 spelled (SemaphoreCreate s n) = 0x10 ∷ s ∷ n ∷ []
 spelled (SemaphoreDelete s force) = 0x11 ∷ s ∷ force ∷ []
 spelled (SemaphoreWait s block limit) = 0x12 ∷ s ∷ block ∷ limit ∷ []

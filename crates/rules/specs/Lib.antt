@@ -8,6 +8,7 @@ pub mod Move
 pub mod Sound
 pub mod Decides
 pub mod Tested
+pub mod Quantum
 pub mod Task
 pub mod Time
 pub mod Lock

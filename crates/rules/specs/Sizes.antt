@@ -26,10 +26,15 @@ lastPriority = 62
 abbrev pub mostNested : ℕ
 mostNested = 250
 
--- ---- "quantum 0 to 65,535"; a count, the tick counter, a group's flags and a mask have 32 bits
+-- ---- "a default quantum, 1 to 65,535, 100 when fresh"; a task's quantum has the same range
 
 abbrev pub mostQuantum : ℕ
 mostQuantum = 65535
+
+abbrev pub freshQuantum : ℕ
+freshQuantum = 100
+
+-- ---- a count, the tick counter, a group's flags and a mask have 32 bits
 
 abbrev pub mostCount : ℕ
 mostCount = 4294967295
@@ -107,7 +112,8 @@ notInUse = 2
 abbrev pub inUse : ℕ
 inUse = 3
 
--- 4: "base priority above 62, a yes/no byte above 1, a delay of 0 ticks, or (port only) a quantum above 65,535"; "a mask of 0 or a fifth test"
+-- 4: "base priority above 62, a yes/no byte above 1, a delay of 0 ticks, or (port only) a quantum above 65,535"; "a mask of 0 or a fifth test"; "setting the
+-- default to 0"
 abbrev pub badValue : ℕ
 badValue = 4
 

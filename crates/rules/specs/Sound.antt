@@ -146,6 +146,8 @@ pub record SoundTask (k : Task) : Type 0 where
   pub left : k .left ≤ k .quantum
   -- "a mask of 0 .. gets 4", so no waiter has one
   pub asks : k .state ≡ waitsFlags → 1 ≤ k .mask
+  -- "A sound table then has no task in use with quantum 0."
+  pub turn : k .used ≡ 1 → 1 ≤ k .quantum
 
 unfoldable pub isSoundTask : Task → Bool
 isSoundTask k =
@@ -154,7 +156,8 @@ isSoundTask k =
     && (implies (eqb (k .state) plain) (eqb (k .marked) 0)
     && (implies (eqb (k .state) delayed) (eqb (k .marked) 1)
     && (leb (k .left) (k .quantum)
-    && implies (eqb (k .state) waitsFlags) (leb 1 (k .mask))))))
+    && (implies (eqb (k .state) waitsFlags) (leb 1 (k .mask))
+    && implies (eqb (k .used) 1) (leb 1 (k .quantum)))))))
 
 abbrev pub SoundTasks : Table → Type 0
 SoundTasks t = Each taskCount (λ i. SoundTask (taskOf t i))
@@ -253,6 +256,18 @@ WorkedOut t = Each taskCount (λ i. Fresh taskCount (next t) (baseOf t) i (taskO
 unfoldable pub isWorkedOut : Table → Bool
 isWorkedOut t = each taskCount (λ i. eqb (taskOf t i .work) (freshIn t i))
 
+-- ---- the single numbers
+
+pub record SoundNumbers (t : Table) : Type 0 where
+  pub tick : t .tick < ticksRound
+  -- "a default quantum, 1 to 65,535"
+  pub defaultLeast : 1 ≤ t .defaultQuantum
+  pub defaultMost : t .defaultQuantum ≤ mostQuantum
+  pub depth : t .depth ≤ mostNested
+
+unfoldable pub isSoundNumbers : Table → Bool
+isSoundNumbers t = ltb (t .tick) ticksRound && (leb 1 (t .defaultQuantum) && (leb (t .defaultQuantum) mostQuantum && leb (t .depth) mostNested))
+
 -- ---- what each move of a call keeps
 
 pub record SoundWithin (t : Table) : Type 0 where
@@ -260,8 +275,7 @@ pub record SoundWithin (t : Table) : Type 0 where
   pub worked : WorkedOut t
   pub tasks : SoundTasks t
   pub objects : SoundObjects t
-  pub tick : t .tick < ticksRound
-  pub depth : t .depth ≤ mostNested
+  pub numbers : SoundNumbers t
 
 unfoldable pub isSoundWithin : Table → Bool
 isSoundWithin t =
@@ -269,8 +283,7 @@ isSoundWithin t =
     && (isWorkedOut t
     && (each taskCount (λ i. isSoundTask (taskOf t i))
     && (isSoundObjects t
-    && (ltb (t .tick) ticksRound
-    && leb (t .depth) mostNested))))
+    && isSoundNumbers t)))
 
 -- ---- what holds between calls alone
 

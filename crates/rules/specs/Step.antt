@@ -9,6 +9,7 @@ use Rattle.rules.specs.Move.{chosen}
 use Rattle.rules.specs.Task.{createAnswer, create, deleteAnswer, delete, priorityAnswer, changePriority, suspendAnswer, suspend, resumeAnswer, resume}
 use Rattle.rules.specs.Time.{yieldAnswer, yield, delayAnswer, delay, delayResumeAnswer, delayResume}
 use Rattle.rules.specs.Lock.{lockAnswer, lock, unlockAnswer, unlock}
+use Rattle.rules.specs.Quantum.{defaultAnswer, setDefault}
 use Rattle.rules.specs.Object.{objectCreateAnswer, objectDeleteAnswer, objectDelete, objectAbortAnswer, objectAbort}
 use Rattle.rules.specs.Semaphore as semaphore
 use Rattle.rules.specs.Family.{semaphores, mutexes, groups}
@@ -18,7 +19,7 @@ use Rattle.rules.specs.Tick.{ticked}
 use Rattle.rules.specs.Sound.{isSound}
 use Rattle.rules.specs.Kinds.{toldOf, kindOf, numbersOf}
 use Rattle.rules.specs.declared.Call.{Call}
-use Rattle.rules.specs.declared.Call.the-variants.{TaskCreate, TaskDelete, ChangePriority, Suspend, Resume, Yield, Delay, DelayResume, Lock, Unlock, Tick, SemaphoreCreate, SemaphoreDelete, SemaphoreWait, SemaphorePost, SemaphoreAbort, MutexCreate, MutexDelete, MutexWait, MutexPost, MutexAbort, GroupCreate, GroupDelete, GroupWait, GroupPost, GroupAbort}
+use Rattle.rules.specs.declared.Call.the-variants.{TaskCreate, TaskDelete, ChangePriority, Suspend, Resume, Yield, Delay, DelayResume, Lock, Unlock, Tick, SetDefaultQuantum, SemaphoreCreate, SemaphoreDelete, SemaphoreWait, SemaphorePost, SemaphoreAbort, MutexCreate, MutexDelete, MutexWait, MutexPost, MutexAbort, GroupCreate, GroupDelete, GroupWait, GroupPost, GroupAbort}
 
 -- What a call made by a task is answered on a sound table. "Order: 15, 5, 6, 1, 2 or 3, 4, then those of the call".
 unfoldable pub answerTo : Call → Table → ℕ
@@ -33,6 +34,7 @@ answerTo (DelayResume i) t = delayResumeAnswer i t
 answerTo Lock t = lockAnswer t
 answerTo Unlock t = unlockAnswer t
 answerTo Tick t = done
+answerTo (SetDefaultQuantum n) t = defaultAnswer n
 answerTo (SemaphoreCreate s n) t = objectCreateAnswer semaphores s t
 answerTo (SemaphoreDelete s force) t = objectDeleteAnswer semaphores s force t
 answerTo (SemaphoreWait s block limit) t = semaphore.waitAnswer s block t
@@ -62,6 +64,7 @@ changeBy (DelayResume i) t = delayResume i t
 changeBy Lock t = lock t
 changeBy Unlock t = unlock t
 changeBy Tick t = ticked t
+changeBy (SetDefaultQuantum n) t = setDefault n t
 changeBy (SemaphoreCreate s n) t = semaphore.create s n t
 changeBy (SemaphoreDelete s force) t = objectDelete semaphores s t
 changeBy (SemaphoreWait s block limit) t = semaphore.wait s limit t

@@ -5,7 +5,7 @@ use mathlib.Core.List.{List, [], map}
 use Prim.Native.Nat.{ℕ, _+_, _-_}
 use lib.Dec.{eqb}
 use lib.ListN.{getD, set, replicate}
-use Rattle.rules.specs.Sizes.{taskCount, semaphoreCount, mutexCount, groupCount, plain}
+use Rattle.rules.specs.Sizes.{taskCount, semaphoreCount, mutexCount, groupCount, plain, freshQuantum}
 use Rattle.rules.specs.declared.Task.{Task}
 use Rattle.rules.specs.declared.Semaphore.{Semaphore}
 use Rattle.rules.specs.declared.Mutex.{Mutex}
@@ -15,7 +15,8 @@ use Rattle.rules.specs.declared.Group.{Group}
 abbrev pub written : ℕ → ℕ
 written i = i + 1
 
--- The tasks, semaphores, mutexes and groups of flags, free or in use; one list of queues; tick counter, lock depth and the running task.
+-- The tasks, semaphores, mutexes and groups of flags, free or in use; one list of queues; tick counter, default quantum, lock depth and the
+-- running task.
 pub record Table : Type 0 where
   pub tasks : List Task
   pub semaphores : List Semaphore
@@ -23,6 +24,7 @@ pub record Table : Type 0 where
   pub groups : List Group
   pub queues : List (List ℕ)
   pub tick : ℕ
+  pub defaultQuantum : ℕ
   pub depth : ℕ
   pub running : ℕ
 
@@ -110,28 +112,31 @@ abbrev pub flagged : ℕ → Group
 flagged n = record { used = 1; flags = n }
 
 abbrev pub withTasks : List Task → Table → Table
-withTasks x t = record { tasks = x; semaphores = t .semaphores; mutexes = t .mutexes; groups = t .groups; queues = t .queues; tick = t .tick; depth = t .depth; running = t .running }
+withTasks x t = record { tasks = x; semaphores = t .semaphores; mutexes = t .mutexes; groups = t .groups; queues = t .queues; tick = t .tick; defaultQuantum = t .defaultQuantum; depth = t .depth; running = t .running }
 
 abbrev pub withSemaphores : List Semaphore → Table → Table
-withSemaphores x t = record { tasks = t .tasks; semaphores = x; mutexes = t .mutexes; groups = t .groups; queues = t .queues; tick = t .tick; depth = t .depth; running = t .running }
+withSemaphores x t = record { tasks = t .tasks; semaphores = x; mutexes = t .mutexes; groups = t .groups; queues = t .queues; tick = t .tick; defaultQuantum = t .defaultQuantum; depth = t .depth; running = t .running }
 
 abbrev pub withMutexes : List Mutex → Table → Table
-withMutexes x t = record { tasks = t .tasks; semaphores = t .semaphores; mutexes = x; groups = t .groups; queues = t .queues; tick = t .tick; depth = t .depth; running = t .running }
+withMutexes x t = record { tasks = t .tasks; semaphores = t .semaphores; mutexes = x; groups = t .groups; queues = t .queues; tick = t .tick; defaultQuantum = t .defaultQuantum; depth = t .depth; running = t .running }
 
 abbrev pub withGroups : List Group → Table → Table
-withGroups x t = record { tasks = t .tasks; semaphores = t .semaphores; mutexes = t .mutexes; groups = x; queues = t .queues; tick = t .tick; depth = t .depth; running = t .running }
+withGroups x t = record { tasks = t .tasks; semaphores = t .semaphores; mutexes = t .mutexes; groups = x; queues = t .queues; tick = t .tick; defaultQuantum = t .defaultQuantum; depth = t .depth; running = t .running }
 
 abbrev pub withQueues : List (List ℕ) → Table → Table
-withQueues x t = record { tasks = t .tasks; semaphores = t .semaphores; mutexes = t .mutexes; groups = t .groups; queues = x; tick = t .tick; depth = t .depth; running = t .running }
+withQueues x t = record { tasks = t .tasks; semaphores = t .semaphores; mutexes = t .mutexes; groups = t .groups; queues = x; tick = t .tick; defaultQuantum = t .defaultQuantum; depth = t .depth; running = t .running }
 
 abbrev pub withTick : ℕ → Table → Table
-withTick x t = record { tasks = t .tasks; semaphores = t .semaphores; mutexes = t .mutexes; groups = t .groups; queues = t .queues; tick = x; depth = t .depth; running = t .running }
+withTick x t = record { tasks = t .tasks; semaphores = t .semaphores; mutexes = t .mutexes; groups = t .groups; queues = t .queues; tick = x; defaultQuantum = t .defaultQuantum; depth = t .depth; running = t .running }
+
+abbrev pub withDefaultQuantum : ℕ → Table → Table
+withDefaultQuantum x t = record { tasks = t .tasks; semaphores = t .semaphores; mutexes = t .mutexes; groups = t .groups; queues = t .queues; tick = t .tick; defaultQuantum = x; depth = t .depth; running = t .running }
 
 abbrev pub withDepth : ℕ → Table → Table
-withDepth x t = record { tasks = t .tasks; semaphores = t .semaphores; mutexes = t .mutexes; groups = t .groups; queues = t .queues; tick = t .tick; depth = x; running = t .running }
+withDepth x t = record { tasks = t .tasks; semaphores = t .semaphores; mutexes = t .mutexes; groups = t .groups; queues = t .queues; tick = t .tick; defaultQuantum = t .defaultQuantum; depth = x; running = t .running }
 
 abbrev pub withRunning : ℕ → Table → Table
-withRunning x t = record { tasks = t .tasks; semaphores = t .semaphores; mutexes = t .mutexes; groups = t .groups; queues = t .queues; tick = t .tick; depth = t .depth; running = x }
+withRunning x t = record { tasks = t .tasks; semaphores = t .semaphores; mutexes = t .mutexes; groups = t .groups; queues = t .queues; tick = t .tick; defaultQuantum = t .defaultQuantum; depth = t .depth; running = x }
 
 -- one task, object or queue changed
 
@@ -210,7 +215,7 @@ slotIn q k t = getD (queueOf t q) k 0
 abbrev pub firstIn : ℕ → Table → ℕ
 firstIn q t = slotIn q 0 t
 
--- "The fresh table: nothing in use, all numbers 0, none running."
+-- "The fresh table: nothing in use, all numbers 0, none running"; the default quantum is "100 when fresh".
 unfoldable pub freshTable : Table
 freshTable =
     record {
@@ -220,6 +225,7 @@ freshTable =
       groups = replicate groupCount noGroup;
       queues = replicate queueCount (replicate taskCount 0);
       tick = 0;
+      defaultQuantum = freshQuantum;
       depth = 0;
       running = 0;
     }

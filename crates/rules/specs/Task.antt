@@ -7,6 +7,7 @@ use Rattle.rules.specs.Sizes.{taskCount, mutexCount, lastPriority, mostN
 use Rattle.rules.specs.declared.Task.{Task}
 use Rattle.rules.specs.Table.{Table, taskOf, mutexOf, isUsed, written, noTask, withUsed, withBase, withWork, withSuspend, withQuantum, withLeft}
 use Rattle.rules.specs.Move.{put, walk, next, isRunning}
+use Rattle.rules.specs.Quantum.{quantumOf}
 
 -- The answer of a call on task i that is in range and in use, or else the number that says what is wrong.
 abbrev pub onTask : ℕ → Table → ℕ → ℕ
@@ -15,7 +16,7 @@ onTask i t answer = cond (leb taskCount i) beyondRange (cond (not (isUsed (taskO
 abbrev pub isLocked : Table → Bool
 isLocked t = not (eqb (t .depth) 0)
 
--- ---- "Task create (plain, suspend 0, left = quantum, outcome 0)."
+-- ---- "Task create (plain, suspend 0, left = quantum, outcome 0)."; "a task created with 0 takes the default of that moment"
 
 abbrev pub created : ℕ → ℕ → Task
 created base quantum = withUsed 1 (withBase base (withWork base (withQuantum quantum (withLeft quantum noTask))))
@@ -28,7 +29,7 @@ createAnswer i base quantum t =
     (cond (ltb lastPriority base || ltb mostQuantum quantum) badValue done))
 
 unfoldable pub create : ℕ → ℕ → ℕ → Table → Table
-create i base quantum t = put i (created base quantum) t
+create i base quantum t = put i (created base (quantumOf quantum t)) t
 
 -- ---- "Task delete: it leaves its queue, then the chain from the holder it waited for moves."
 

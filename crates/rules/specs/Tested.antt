@@ -20,7 +20,7 @@ use Rattle.rules.specs.declared.Task.{Task}
 use Rattle.rules.specs.declared.Semaphore.{Semaphore}
 use Rattle.rules.specs.declared.Mutex.{Mutex}
 use Rattle.rules.specs.declared.Group.{Group}
-use Rattle.rules.specs.Sound.{Each, once, Shaped, isShaped, TaskInRange, isTaskInRange, isNoTask, isNoSemaphore, isNoMutex, isNoGroup, SoundTask, isSoundTask, SoundSemaphore, isSoundSemaphore, SoundMutex, isSoundMutex, SoundGroup, isSoundGroup, MayWait, mayWait, SoundWait, isSoundWait, SoundObjects, isSoundObjects, SoundQueues, isSoundQueues, isWorkedOut, SoundWithin, isSoundWithin, SoundRuns, isSoundRuns, Sound, isSound}
+use Rattle.rules.specs.Sound.{Each, once, Shaped, isShaped, TaskInRange, isTaskInRange, isNoTask, isNoSemaphore, isNoMutex, isNoGroup, SoundTask, isSoundTask, SoundSemaphore, isSoundSemaphore, SoundMutex, isSoundMutex, SoundGroup, isSoundGroup, MayWait, mayWait, SoundWait, isSoundWait, SoundObjects, isSoundObjects, SoundQueues, isSoundQueues, isWorkedOut, SoundNumbers, isSoundNumbers, SoundWithin, isSoundWithin, SoundRuns, isSoundRuns, Sound, isSound}
 use Rattle.rules.specs.Family.{Family, placeOf}
 use Rattle.rules.specs.Decides.{Decides, equals, at-most, itself, fails, if-so, either, first, last, each-one, each-of}
 
@@ -109,8 +109,9 @@ task-right k =
     first (λ r. r .plainMark) (if-so equals equals) λ plainMark.
     first (λ r. r .delayMark) (if-so equals equals) λ delayMark.
     first (λ r. r .left) at-most λ left.
-    last (λ r. r .asks) (if-so equals at-most) λ asks.
-    record { inRange = inRange; freeZero = freeZero; plainMark = plainMark; delayMark = delayMark; left = left; asks = asks }
+    first (λ r. r .asks) (if-so equals at-most) λ asks.
+    last (λ r. r .turn) (if-so equals at-most) λ turn.
+    record { inRange = inRange; freeZero = freeZero; plainMark = plainMark; delayMark = delayMark; left = left; asks = asks; turn = turn }
 
 pub semaphore-right : (x : Semaphore) → Decides (isSoundSemaphore x) (SoundSemaphore x)
 unfolding isSoundSemaphore
@@ -214,6 +215,15 @@ worked {n} {next} {base} {i} {p} e l =
 
 -- ---- the standing rules
 
+pub numbers-right : (t : Table) → Decides (isSoundNumbers t) (SoundNumbers t)
+unfolding isSoundNumbers
+numbers-right t =
+    first (λ s. s .tick) at-most λ tick.
+    first (λ s. s .defaultLeast) at-most λ defaultLeast.
+    first (λ s. s .defaultMost) at-most λ defaultMost.
+    last (λ s. s .depth) at-most λ depth.
+    record { tick = tick; defaultLeast = defaultLeast; defaultMost = defaultMost; depth = depth }
+
 settled : (t : Table) → Decides (isSoundWithin t) (SoundWithin t)
 unfolding isSoundWithin isWorkedOut freshIn
 settled t =
@@ -221,9 +231,8 @@ settled t =
     first (λ s. s .worked) (each-one λ i l. worked (ends t (queued .shaped)) l) λ worked.
     first (λ s. s .tasks) (each-one λ i l. task-right (taskOf t i)) λ tasks.
     first (λ s. s .objects) (objects-right t) λ objects.
-    first (λ s. s .tick) at-most λ tick.
-    last (λ s. s .depth) at-most λ depth.
-    record { queued = queued; worked = worked; tasks = tasks; objects = objects; tick = tick; depth = depth }
+    last (λ s. s .numbers) (numbers-right t) λ numbers.
+    record { queued = queued; worked = worked; tasks = tasks; objects = objects; numbers = numbers }
 
 pub runs : (t : Table) → Decides (isSoundRuns t) (SoundRuns t)
 unfolding isSoundRuns

@@ -50,6 +50,7 @@ pub enum Call {
     Lock,
     Unlock,
     Tick,
+    SetDefaultQuantum(u32),
     SemaphoreCreate(u32, u32),
     SemaphoreDelete(u32, u32),
     SemaphoreWait(u32, u32, u32),

@@ -53,7 +53,8 @@ hasSoundTurns k =
     leb (k .quantum) mostQuantum
     && (leb (k .left) mostQuantum
     && (leb (k .left) (k .quantum)
-    && (not (eqb (k .used) 0) || eqb (k .quantum) 0)))
+    && ((not (eqb (k .used) 0) || eqb (k .quantum) 0)
+    && (not (eqb (k .used) 1) || not (eqb (k .quantum) 0)))))
 
 -- The mask: in range, and not 0 where it is asked for.
 abbrev pub hasSoundMask : Task → Bool
@@ -147,6 +148,7 @@ module _ (k : Task) where
     left : k .left ≤ mostQuantum
     within : k .left ≤ k .quantum
     free : k .used ≡ 0 → k .quantum ≡ 0
+    some : k .used ≡ 1 → k .quantum ≡ 0 → ⊥
 
   turns : Decides (hasSoundTurns k) Turns
   unfolding hasSoundTurns
@@ -154,8 +156,9 @@ module _ (k : Task) where
       first (λ r. r .quantum) at-most λ quantum.
       first (λ r. r .left) at-most λ left.
       first (λ r. r .within) at-most λ within.
-      last (λ r. r .free) (unless equals equals) λ free.
-      record { quantum = quantum; left = left; within = within; free = free }
+      first (λ r. r .free) (unless equals equals) λ free.
+      last (λ r. r .some) (unless equals (fails equals)) λ some.
+      record { quantum = quantum; left = left; within = within; free = free; some = some }
 
   levels-of : SoundTask k → Levels
   levels-of r =
@@ -185,7 +188,14 @@ module _ (k : Task) where
   mask-of r = record { mask = r .inRange .mask; some = r .asks }
 
   turns-of : SoundTask k → Turns
-  turns-of r = record { quantum = r .inRange .quantum; left = r .inRange .left; within = r .left; free = λ e. ap (λ (x : Task). x .quantum) (r .freeZero e) }
+  turns-of r =
+      record {
+        quantum = r .inRange .quantum;
+        left = r .inRange .left;
+        within = r .left;
+        free = λ e. ap (λ (x : Task). x .quantum) (r .freeZero e);
+        some = λ e z. omega (arith, r .turn e, z);
+      }
 
   task-of : Levels → State → Asks → Turns → Mask → k .due < marksIn (k .marked) → SoundTask k
   task-of v f a u m d =
@@ -196,6 +206,7 @@ module _ (k : Task) where
         delayMark = λ e. omega (arith, f .mark (λ l. omega arith));
         left = u .within;
         asks = m .some;
+        turn = λ e. pos-of-ne-zero (u .some e);
       }
     where
       zero : k .used ≡ 0 → k ≡ noTask
@@ -214,7 +225,7 @@ module _ (k : Task) where
           λ i. record { used = e i; base = base i; work = work i; suspend = suspend i; quantum = quantum i; left = left i; state = state i; object = object i; marked = marked i; due = due i; outcome = outcome i; mask = mask i; test = test i; consume = consume i }
 
   -- As the code asks, of numbers that fit their bytes.
-  pub turns-row : k .quantum ≤ mostQuantum → k .left ≤ mostQuantum → leb (k .left) (k .quantum) && (not (eqb (k .used) 0) || eqb (k .quantum) 0) ≡ hasSoundTurns k
+  pub turns-row : k .quantum ≤ mostQuantum → k .left ≤ mostQuantum → leb (k .left) (k .quantum) && ((not (eqb (k .used) 0) || eqb (k .quantum) 0) && (not (eqb (k .used) 1) || not (eqb (k .quantum) 0))) ≡ hasSoundTurns k
   unfolding hasSoundTurns
   turns-row p q = rw (le-leb (k .quantum) mostQuantum p, le-leb (k .left) mostQuantum q)
 
@@ -251,16 +262,13 @@ module _ (k : Task) where
 
 -- ---- all tasks
 
--- The rules' own: each task by itself, no mark is due, and the tick counter.
+-- The rules' own: each task by itself, and no mark is due.
 abbrev pub areTasksSound : Table → Bool
-areTasksSound t = each taskCount (λ i. isSoundTask (taskOf t i)) && (areNotDue t && ltb (t .tick) ticksRound)
-
-abbrev TimesSound : Table → Type 0
-TimesSound t = NotDue t × (t .tick < ticksRound)
+areTasksSound t = each taskCount (λ i. isSoundTask (taskOf t i)) && areNotDue t
 
 module _ (t : Table) where
-  tasks-say : Decides (areTasksSound t) (SoundTasks t × TimesSound t)
-  tasks-say = both (each-one (λ i l. task-right (taskOf t i))) (both (each-one (λ i l. if-so equals (fails equals))) at-most)
+  tasks-say : Decides (areTasksSound t) (SoundTasks t × NotDue t)
+  tasks-say = both (each-one (λ i l. task-right (taskOf t i))) (each-one (λ i l. if-so equals (fails equals)))
 
   pub tasks-sound : areTasksSound t ≡ true → SoundTasks t
   tasks-sound e = tasks-say .holds e .0
@@ -268,25 +276,24 @@ module _ (t : Table) where
   rows-say : Decides (each taskCount (λ i. hasSoundFields (taskOf t i))
       && (each taskCount (λ i. hasSoundTurns (taskOf t i))
       && (each taskCount (λ i. hasSoundMask (taskOf t i))
-      && (ltb (t .tick) ticksRound && each taskCount (λ i. hasSoundMark (t .tick) (taskOf t i)))))) (SoundTasks t × TimesSound t)
+      && each taskCount (λ i. hasSoundMark (t .tick) (taskOf t i))))) (SoundTasks t × NotDue t)
   rows-say =
       first fields (each-one (λ i l. both (levels (taskOf t i)) (both (states (taskOf t i)) (asks (taskOf t i))))) λ f.
       first (λ r i l. turns-of (taskOf t i) (r .0 i l)) (each-one (λ i l. turns (taskOf t i))) λ u.
       first (λ r i l. mask-of (taskOf t i) (r .0 i l)) (each-one (λ i l. masks (taskOf t i))) λ k.
-      first (λ r. r .1 .1) at-most λ tick.
       last marks (each-one (λ i l. both at-most (if-so equals (fails equals)))) λ m.
-      ((λ i l. task-of (taskOf t i) (f i l .0) (f i l .1 .0) (f i l .1 .1) (u i l) (k i l) (m i l .0)), ((λ i l. m i l .1), tick))
+      ((λ i l. task-of (taskOf t i) (f i l .0) (f i l .1 .0) (f i l .1 .1) (u i l) (k i l) (m i l .0)), λ i l. m i l .1)
     where
-      fields : SoundTasks t × TimesSound t → Each taskCount (λ i. Levels (taskOf t i) × (State (taskOf t i) × Asks (taskOf t i)))
+      fields : SoundTasks t × NotDue t → Each taskCount (λ i. Levels (taskOf t i) × (State (taskOf t i) × Asks (taskOf t i)))
       fields r i l = (levels-of (taskOf t i) (r .0 i l), (state-of (taskOf t i) (r .0 i l), asks-of (taskOf t i) (r .0 i l)))
 
-      marks : SoundTasks t × TimesSound t → Each taskCount (λ i. (taskOf t i .due < marksIn (taskOf t i .marked)) × (taskOf t i .marked ≡ 1 → taskOf t i .due ≡ t .tick → ⊥))
-      marks (tasks, (notDue, tick)) i l = (tasks i l .inRange .due, notDue i l)
+      marks : SoundTasks t × NotDue t → Each taskCount (λ i. (taskOf t i .due < marksIn (taskOf t i .marked)) × (taskOf t i .marked ≡ 1 → taskOf t i .due ≡ t .tick → ⊥))
+      marks (tasks, notDue) i l = (tasks i l .inRange .due, notDue i l)
 
   pub tasks-rows : each taskCount (λ i. hasSoundFields (taskOf t i))
       && (each taskCount (λ i. hasSoundTurns (taskOf t i))
       && (each taskCount (λ i. hasSoundMask (taskOf t i))
-      && (ltb (t .tick) ticksRound && each taskCount (λ i. hasSoundMark (t .tick) (taskOf t i)))))
+      && each taskCount (λ i. hasSoundMark (t .tick) (taskOf t i))))
       ≡ areTasksSound t
   tasks-rows = same-test rows-say tasks-say
 

@@ -1,16 +1,17 @@
 -- What is tested together is the standing rules.
 use mathlib.Core.Path.{_≡_, refl, sym, ap, _∙_}
-use mathlib.Core.Bool.{Bool, true, false, cond, _&&_, _||_, and-true}
+use mathlib.Core.Bool.{Bool, true, false, cond, not, _&&_, _||_, and-true}
 use mathlib.Core.List.{List}
-use Prim.Native.Nat.{ℕ, _+_, _-_}
+use Prim.Native.Nat.{ℕ, _+_, _-_, _≤_, _<_}
+use native.Mathlib.Nat.{pos-of-ne-zero}
 use native.Mathlib.Omega.{arith}
-use lib.Dec.{eqb, leb, ltb}
-use borrow.Author.Tests.{eq-eqb, ne-eqb, le-leb}
-use Rattle.rules.specs.Sizes.{taskCount, semaphoreCount, mutexCount, groupCount, mostNested, ticksRound}
+use lib.Dec.{eqb, leb}
+use borrow.Author.Tests.{eq-eqb, ne-eqb}
+use Rattle.rules.specs.Sizes.{taskCount, semaphoreCount, mutexCount, groupCount, mostNested, mostQuantum, ticksRound}
 use Rattle.rules.specs.Table.{Table, taskOf, semaphoreOf, mutexOf, groupOf, queueCount, ableQueue, firstIn, isAble}
-use Rattle.rules.specs.Sound.{Each, each, Shaped, SoundTasks, SoundQueues, isSoundTask, isSoundSemaphore, isSoundMutex, isSoundGroup, isSoundQueues, isWorkedOut, isSoundRuns, isSoundObjects, isSoundWithin, isSound}
-use Rattle.rules.specs.Tested.{queued}
-use Rattle.rules.specs.Decides.{Decides, itself, first, last, both, each-one}
+use Rattle.rules.specs.Sound.{Each, each, Shaped, SoundTasks, SoundQueues, isSoundTask, isSoundSemaphore, isSoundMutex, isSoundGroup, isSoundQueues, isWorkedOut, SoundNumbers, isSoundNumbers, isSoundRuns, isSoundObjects, isSoundWithin, isSound}
+use Rattle.rules.specs.Tested.{queued, numbers-right}
+use Rattle.rules.specs.Decides.{Decides, equals, at-most, itself, fails, first, last, both, each-one}
 use Rattle.sound.specs.Tests.{same-test}
 use Rattle.sound.specs.Rows.{areNotDue, areTasksSound, areObjectsSound}
 use Rattle.sound.specs.Packed.{leads, frees, slotCount, packed-all, ordered-packed}
@@ -84,48 +85,55 @@ module _ {t : Table} {spots : List ℕ} (shaped : Shaped t) (tasks : SoundTasks 
       ∙ turned areLined areFrontsSound arePacked (areMet (spotsAt spots t queueCount)) areHoldersSound
       ∙ same-test say (both (queued t) (waits-right t))
 
--- ---- who runs
+-- ---- the single numbers, and who runs
 
--- The rules' own: lock depth and running task.
-abbrev pub isRunSound : Table → Bool
-isRunSound t = leb (t .depth) mostNested && isSoundRuns t
+-- As the code asks, of numbers that fit their bytes.
+pub numbers-row : (t : Table) → t .tick < ticksRound → t .defaultQuantum ≤ mostQuantum → not (eqb (t .defaultQuantum) 0) && leb (t .depth) mostNested ≡ isSoundNumbers t
+numbers-row t tick most =
+    same-test
+    (first some (fails equals) λ least.
+    last (λ r. r .depth) at-most λ depth.
+    record { tick = tick; defaultLeast = pos-of-ne-zero least; defaultMost = most; depth = depth })
+    (numbers-right t)
+  where
+    some : SoundNumbers t → t .defaultQuantum ≡ 0 → ⊥
+    some r z = omega (arith, r .defaultLeast)
 
 unfoldable pub mayRun : Table → ℕ → Bool
 mayRun t v = leb v taskCount && (eqb v 0 || isAble (taskOf t (v - 1)))
 
 module _ (t : Table) where
-  pub runs-unlocked : t .depth ≡ 0 → leb (t .running) taskCount && eqb (t .running) (firstIn ableQueue t) ≡ isRunSound t
+  pub runs-unlocked : t .depth ≡ 0 → leb (t .running) taskCount && eqb (t .running) (firstIn ableQueue t) ≡ isSoundRuns t
   unfolding isSoundRuns
-  runs-unlocked e = rw (le-leb (t .depth) mostNested (omega arith), eq-eqb (t .depth) 0 e, and-true)
+  runs-unlocked e = rw (eq-eqb (t .depth) 0 e, and-true)
 
-  pub runs-locked : (t .depth ≡ 0 → ⊥) → leb (t .depth) mostNested && mayRun t (t .running) ≡ isRunSound t
+  pub runs-locked : (t .depth ≡ 0 → ⊥) → mayRun t (t .running) ≡ isSoundRuns t
   unfolding isSoundRuns mayRun
   runs-locked n = rw (ne-eqb (t .depth) 0 n)
 
 -- ---- all of it
 
 -- The tests in the order of the code and in that of the rules.
-reordered : (tasks notDue tick semaphores mutexes groups queues waits holders works depth runs : Bool)
-    → (tasks && (notDue && tick)) && ((semaphores && (mutexes && groups)) && ((queues && (waits && holders)) && (works && (depth && runs))))
-    ≡ (queues && (works && (tasks && ((semaphores && (mutexes && (groups && (waits && holders)))) && (tick && depth))))) && (notDue && runs)
-reordered tasks notDue tick semaphores mutexes groups queues waits holders works depth runs =
+reordered : (tasks notDue semaphores mutexes groups queues waits holders works numbers runs : Bool)
+    → (tasks && notDue) && ((semaphores && (mutexes && groups)) && ((queues && (waits && holders)) && (works && (numbers && runs))))
+    ≡ (queues && (works && (tasks && ((semaphores && (mutexes && (groups && (waits && holders)))) && numbers)))) && (notDue && runs)
+reordered tasks notDue semaphores mutexes groups queues waits holders works numbers runs =
     same-test
-    (both (both (is tasks) (both (is notDue) (is tick))) (both (both (is semaphores) (both (is mutexes) (is groups))) (both (both (is queues) (both (is waits) (is holders))) (both (is works) (both (is depth) (is runs))))))
+    (both (both (is tasks) (is notDue)) (both (both (is semaphores) (both (is mutexes) (is groups))) (both (both (is queues) (both (is waits) (is holders))) (both (is works) (both (is numbers) (is runs))))))
     (last
-    (λ ((ts, (nd, ti)), ((se, (mu, gr)), ((qs, (wa, ho)), (wo, (de, ru))))). ((qs, (wo, (ts, ((se, (mu, (gr, (wa, ho)))), (ti, de))))), (nd, ru)))
-    (both (both (is queues) (both (is works) (both (is tasks) (both (both (is semaphores) (both (is mutexes) (both (is groups) (both (is waits) (is holders))))) (both (is tick) (is depth)))))) (both (is notDue) (is runs)))
-    (λ ((qs, (wo, (ts, ((se, (mu, (gr, (wa, ho)))), (ti, de))))), (nd, ru)). ((ts, (nd, ti)), ((se, (mu, gr)), ((qs, (wa, ho)), (wo, (de, ru)))))))
+    (λ ((ts, nd), ((se, (mu, gr)), ((qs, (wa, ho)), (wo, (nu, ru))))). ((qs, (wo, (ts, ((se, (mu, (gr, (wa, ho)))), nu)))), (nd, ru)))
+    (both (both (is queues) (both (is works) (both (is tasks) (both (both (is semaphores) (both (is mutexes) (both (is groups) (both (is waits) (is holders))))) (is numbers))))) (both (is notDue) (is runs)))
+    (λ ((qs, (wo, (ts, ((se, (mu, (gr, (wa, ho)))), nu)))), (nd, ru)). ((ts, nd), ((se, (mu, gr)), ((qs, (wa, ho)), (wo, (nu, ru)))))))
   where
     is : (b : Bool) → Decides b (b ≡ true)
     is b = itself
 
-sound-parts : (t : Table) → areTasksSound t && (areObjectsSound t && (areQueuesSound t && (isWorkedOut t && isRunSound t))) ≡ isSound t
+sound-parts : (t : Table) → areTasksSound t && (areObjectsSound t && (areQueuesSound t && (isWorkedOut t && (isSoundNumbers t && isSoundRuns t)))) ≡ isSound t
 unfolding isSound isSoundWithin isSoundObjects
 sound-parts t =
     reordered
     (each taskCount (λ i. isSoundTask (taskOf t i)))
     (areNotDue t)
-    (ltb (t .tick) ticksRound)
     (each semaphoreCount (λ i. isSoundSemaphore (semaphoreOf t i)))
     (each mutexCount (λ i. isSoundMutex (mutexOf t i)))
     (each groupCount (λ i. isSoundGroup (groupOf t i)))
@@ -133,15 +141,15 @@ sound-parts t =
     (areWaitsSound t)
     (areHoldersUsed t)
     (isWorkedOut t)
-    (leb (t .depth) mostNested)
+    (isSoundNumbers t)
     (isSoundRuns t)
 
 module _ (t : Table) where
   abbrev rest : Bool
-  rest = areObjectsSound t && (areQueuesSound t && (isWorkedOut t && isRunSound t))
+  rest = areObjectsSound t && (areQueuesSound t && (isWorkedOut t && (isSoundNumbers t && isSoundRuns t)))
 
   pub sound-never : areTasksSound t ≡ false → false ≡ isSound t
   sound-never e = ap (λ (b : Bool). b && rest) (sym e) ∙ sound-parts t
 
-  pub sound-rest : areTasksSound t ≡ true → areObjectsSound t && (areQueuesSound t && (isWorkedOut t && isRunSound t)) ≡ isSound t
+  pub sound-rest : areTasksSound t ≡ true → areObjectsSound t && (areQueuesSound t && (isWorkedOut t && (isSoundNumbers t && isSoundRuns t))) ≡ isSound t
   sound-rest e = ap (λ (b : Bool). b && rest) (sym e) ∙ sound-parts t

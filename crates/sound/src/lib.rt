@@ -1,8 +1,8 @@
 // The standing rules, tested on an image: each field in a row over all tasks or objects, then the queues, the working priorities and who runs.
 ghost use mathlib.Core.Path.{_≡_};
-ghost use Rattle.rules.specs.Sound.{isSound};
+ghost use Rattle.rules.specs.Sound.{isSoundNumbers, isSoundRuns, isSound};
 ghost use Rattle.table.specs.Image.{Image, view};
-ghost use Rattle.sound.specs.Whole.{mayRun, isRunSound};
+ghost use Rattle.sound.specs.Whole.{mayRun};
 
 mod groups;
 mod mutexes;
@@ -27,10 +27,19 @@ fn may_run(s: &[u8], v: u8) -> bool
     table::moves::is_able(s, v as usize - 1)
 }
 
-// Lock depth and running task.
+// Tick counter, default quantum and lock depth. Every tick of 32 bits and every quantum of 16 is in range, but for 0.
+fn are_numbers_right(s: &[u8]) -> bool
+    requires { ⌜ Image (now s) ⌝ }
+    ensures { λ r. ⌜ r ≡ isSoundNumbers (view (now (s .entry))) ⌝ }
+{
+    let quantum = table::numbers::get_default(s);
+    let depth = table::numbers::get_depth(s);
+    (quantum != 0) & (depth <= 250)
+}
+
 fn is_run_right(s: &[u8]) -> bool
     requires { ⌜ Image (now s) ⌝ }
-    ensures { λ r. ⌜ r ≡ isRunSound (view (now (s .entry))) ⌝ }
+    ensures { λ r. ⌜ r ≡ isSoundRuns (view (now (s .entry))) ⌝ }
 {
     let depth = table::numbers::get_depth(s);
     let v = table::numbers::get_running(s);
@@ -38,7 +47,7 @@ fn is_run_right(s: &[u8]) -> bool
         let front = table::moves::first_in(s, 0);
         return (v <= 32) & (v == front);
     }
-    (depth <= 250) & may_run(s, v)
+    may_run(s, v)
 }
 
 // Whether the table that the image shows is sound. The queues are looked at where the tasks are right, so that each has a place.
@@ -50,5 +59,6 @@ pub fn is_sound(s: &[u8]) -> bool
         return false;
     }
     objects::are_objects_right(s)
-        & (queues::are_queues_right(s) & (works::are_works_right(s) & is_run_right(s)))
+        & (queues::are_queues_right(s)
+            & (works::are_works_right(s) & (are_numbers_right(s) & is_run_right(s))))
 }

@@ -1,9 +1,7 @@
 // The fields of the tasks. A test has no branch and a loop no early end, so that the compiler takes many tasks at once.
 ghost use mathlib.Core.Path.{_≡_};
-ghost use mathlib.Core.Bool.{_&&_};
 ghost use Prim.Native.Nat.{_<_};
-ghost use lib.Dec.{ltb};
-ghost use Rattle.rules.specs.Sizes.{taskCount, ticksRound};
+ghost use Rattle.rules.specs.Sizes.{taskCount};
 ghost use Rattle.rules.specs.Table.{taskOf};
 ghost use Rattle.rules.specs.Family.{objectsIn};
 ghost use Rattle.rules.specs.Sound.{each, asksIn};
@@ -92,7 +90,7 @@ fn are_fields_right(s: &[u8]) -> bool
     all
 }
 
-// Every number of 16 bits is in range.
+// Every number of 16 bits is in range. A task in use has a quantum, and nobody else.
 fn has_right_turns(s: &[u8], i: usize) -> bool
     requires { ⌜ (i < taskCount) × Image (now s) ⌝ }
     ensures { λ r. ⌜ r ≡ hasSoundTurns (taskOf (view (now (s .entry))) i) ⌝ }
@@ -100,7 +98,7 @@ fn has_right_turns(s: &[u8], i: usize) -> bool
     let used = table::tasks::get_used(s, i);
     let quantum = table::tasks::get_quantum(s, i);
     let left = table::tasks::get_left(s, i);
-    (left <= quantum) & ((used != 0) | (quantum == 0))
+    (left <= quantum) & (((used != 0) | (quantum == 0)) & ((used != 1) | (quantum != 0)))
 }
 
 // Quantum and what is left of it.
@@ -127,10 +125,10 @@ fn has_right_mark(s: &[u8], i: usize, tick: u32) -> bool
     ((marked != 0) | (due == 0)) & ((marked != 1) | (due != tick))
 }
 
-// The due marks, and the tick counter.
+// The due marks.
 fn are_marks_right(s: &[u8]) -> bool
     requires { ⌜ Image (now s) ⌝ }
-    ensures { λ r. ⌜ r ≡ ltb (view (now (s .entry)) .tick) ticksRound && each taskCount (λ i. hasSoundMark (view (now (s .entry)) .tick) (taskOf (view (now (s .entry))) i)) ⌝ }
+    ensures { λ r. ⌜ r ≡ each taskCount (λ i. hasSoundMark (view (now (s .entry)) .tick) (taskOf (view (now (s .entry))) i)) ⌝ }
 {
     let tick = numbers::get_tick(s);
     let mut all = true;

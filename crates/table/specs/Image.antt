@@ -30,14 +30,17 @@ queueColumns = replicate queueCount (column 1 slotCount)
 abbrev pub tickColumn : ℕ
 tickColumn = queueFirst + queueCount
 
+abbrev pub defaultColumn : ℕ
+defaultColumn = tickColumn + 1
+
 abbrev pub depthColumn : ℕ
-depthColumn = tickColumn + 1
+depthColumn = defaultColumn + 1
 
 abbrev pub runningColumn : ℕ
 runningColumn = depthColumn + 1
 
 abbrev pub numberColumns : List Column
-numberColumns = column 4 1 ∷ column 1 1 ∷ column 1 1 ∷ []
+numberColumns = column 4 1 ∷ column 2 1 ∷ column 1 1 ∷ column 1 1 ∷ []
 
 -- ---- the image, and the table that it shows
 
@@ -60,6 +63,7 @@ shown n =
       groups = records group.kind n;
       queues = runOf queueFirst queueCount n;
       tick = entry n tickColumn 0;
+      defaultQuantum = entry n defaultColumn 0;
       depth = entry n depthColumn 0;
       running = entry n runningColumn 0;
     }
@@ -75,7 +79,7 @@ numbersOf t =
     ++ (columnsOf mutex.kind (t .mutexes)
     ++ (columnsOf group.kind (t .groups)
     ++ (t .queues
-    ++ ((t .tick ∷ []) ∷ (t .depth ∷ []) ∷ (t .running ∷ []) ∷ [])))))
+    ++ ((t .tick ∷ []) ∷ (t .defaultQuantum ∷ []) ∷ (t .depth ∷ []) ∷ (t .running ∷ []) ∷ [])))))
 
 unfoldable pub imageOf : Table → List ℕ
 imageOf t = image layout (numbersOf t)

@@ -11,12 +11,12 @@ use Rattle.columns.specs.Laws.{entry-read}
 use Rattle.columns.specs.Rows.{Kind, records, single}
 use Rattle.columns.specs.Runs.{runOf, row-run}
 use Rattle.columns.specs.Views.{alike, putRow, RowFits, row-kept, row-entry, put-same, even-at}
-use Rattle.rules.specs.Table.{queueCount, withTick, withDepth, withRunning}
+use Rattle.rules.specs.Table.{queueCount, withTick, withDefaultQuantum, withDepth, withRunning}
 use Rattle.table.specs.kinds.Task as task
 use Rattle.table.specs.kinds.Semaphore as semaphore
 use Rattle.table.specs.kinds.Mutex as mutex
 use Rattle.table.specs.kinds.Group as group
-use Rattle.table.specs.Image.{queueFirst, tickColumn, depthColumn, runningColumn, layout, Image, view}
+use Rattle.table.specs.Image.{queueFirst, tickColumn, defaultColumn, depthColumn, runningColumn, layout, Image, view}
 
 -- ---- what is read
 
@@ -24,6 +24,10 @@ module _ (l : List ℕ) where
   pub view-tick : wordAt 4 (offset layout tickColumn + 4 * 0) l ≡ view l .tick
   unfolding view
   view-tick = sym (entry-read layout tickColumn 0 l (omega arith))
+
+  pub view-default : wordAt 2 (offset layout defaultColumn + 2 * 0) l ≡ view l .defaultQuantum
+  unfolding view
+  view-default = sym (entry-read layout defaultColumn 0 l (omega arith))
 
   pub view-depth : wordAt 1 (offset layout depthColumn + 1 * 0) l ≡ view l .depth
   unfolding view
@@ -38,6 +42,10 @@ module _ (l : List ℕ) where
 tick-even : alike (single tickColumn) layout ≡ true
 unfolding every single
 tick-even = refl
+
+default-even : alike (single defaultColumn) layout ≡ true
+unfolding every single
+default-even = refl
 
 depth-even : alike (single depthColumn) layout ≡ true
 unfolding every single
@@ -78,8 +86,24 @@ module _ (l m : List ℕ) (v : ℕ) (h : Image l) where
         groups = others-kept tickColumn v l h tick-even (omega arith) f group.kind (omega arith) x;
         queues = queues-kept tickColumn v l h tick-even (omega arith) f x;
         tick = number-put tickColumn v l h tick-even (omega arith) f x;
+        defaultQuantum = number-kept tickColumn v l h tick-even (omega arith) f defaultColumn (inr (omega arith)) x;
         depth = number-kept tickColumn v l h tick-even (omega arith) f depthColumn (inr (omega arith)) x;
         running = number-kept tickColumn v l h tick-even (omega arith) f runningColumn (inr (omega arith)) x;
+      }
+
+  pub default-put : RowFits (single defaultColumn) layout 0 (v ∷ []) → m ≡ putRow (single defaultColumn) layout 0 0 (v ∷ []) l → view m ≡ withDefaultQuantum v (view l)
+  unfolding view
+  default-put f e = ap view e ∙ λ x.
+      record {
+        tasks = others-kept defaultColumn v l h default-even (omega arith) f task.kind (omega arith) x;
+        semaphores = others-kept defaultColumn v l h default-even (omega arith) f semaphore.kind (omega arith) x;
+        mutexes = others-kept defaultColumn v l h default-even (omega arith) f mutex.kind (omega arith) x;
+        groups = others-kept defaultColumn v l h default-even (omega arith) f group.kind (omega arith) x;
+        queues = queues-kept defaultColumn v l h default-even (omega arith) f x;
+        tick = number-kept defaultColumn v l h default-even (omega arith) f tickColumn (inl (omega arith)) x;
+        defaultQuantum = number-put defaultColumn v l h default-even (omega arith) f x;
+        depth = number-kept defaultColumn v l h default-even (omega arith) f depthColumn (inr (omega arith)) x;
+        running = number-kept defaultColumn v l h default-even (omega arith) f runningColumn (inr (omega arith)) x;
       }
 
   pub depth-put : RowFits (single depthColumn) layout 0 (v ∷ []) → m ≡ putRow (single depthColumn) layout 0 0 (v ∷ []) l → view m ≡ withDepth v (view l)
@@ -92,6 +116,7 @@ module _ (l m : List ℕ) (v : ℕ) (h : Image l) where
         groups = others-kept depthColumn v l h depth-even (omega arith) f group.kind (omega arith) x;
         queues = queues-kept depthColumn v l h depth-even (omega arith) f x;
         tick = number-kept depthColumn v l h depth-even (omega arith) f tickColumn (inl (omega arith)) x;
+        defaultQuantum = number-kept depthColumn v l h depth-even (omega arith) f defaultColumn (inl (omega arith)) x;
         depth = number-put depthColumn v l h depth-even (omega arith) f x;
         running = number-kept depthColumn v l h depth-even (omega arith) f runningColumn (inr (omega arith)) x;
       }
@@ -106,6 +131,7 @@ module _ (l m : List ℕ) (v : ℕ) (h : Image l) where
         groups = others-kept runningColumn v l h running-even (omega arith) f group.kind (omega arith) x;
         queues = queues-kept runningColumn v l h running-even (omega arith) f x;
         tick = number-kept runningColumn v l h running-even (omega arith) f tickColumn (inl (omega arith)) x;
+        defaultQuantum = number-kept runningColumn v l h running-even (omega arith) f defaultColumn (inl (omega arith)) x;
         depth = number-kept runningColumn v l h running-even (omega arith) f depthColumn (inl (omega arith)) x;
         running = number-put runningColumn v l h running-even (omega arith) f x;
       }

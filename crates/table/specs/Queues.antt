@@ -18,7 +18,7 @@ use Rattle.table.specs.kinds.Task as task
 use Rattle.table.specs.kinds.Semaphore as semaphore
 use Rattle.table.specs.kinds.Mutex as mutex
 use Rattle.table.specs.kinds.Group as group
-use Rattle.table.specs.Image.{slotCount, queueFirst, tickColumn, depthColumn, runningColumn, layout, Image, view}
+use Rattle.table.specs.Image.{slotCount, queueFirst, tickColumn, defaultColumn, depthColumn, runningColumn, layout, Image, view}
 
 -- ---- the rows are bytes, and alike
 
@@ -70,6 +70,7 @@ module _ (l : List ℕ) (q a e : ℕ) (h : Image l) (p : q < queueCount) (s : a 
         groups = run-kept t (queueFirst + q) ys group.kind (inr (omega arith)) x;
         queues = run-set t (queueFirst + q) ys queueFirst queueCount q p refl (omega (arith, columns-long layout l)) x;
         tick = run-entry t (queueFirst + q) ys tickColumn 0 (λ d. omega arith) x;
+        defaultQuantum = run-entry t (queueFirst + q) ys defaultColumn 0 (λ d. omega arith) x;
         depth = run-entry t (queueFirst + q) ys depthColumn 0 (λ d. omega arith) x;
         running = run-entry t (queueFirst + q) ys runningColumn 0 (λ d. omega arith) x;
       })

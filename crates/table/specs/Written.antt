@@ -25,7 +25,7 @@ use Rattle.table.specs.records.Task as task-record
 use Rattle.table.specs.records.Semaphore as semaphore-record
 use Rattle.table.specs.records.Mutex as mutex-record
 use Rattle.table.specs.records.Group as group-record
-use Rattle.table.specs.Image.{slotCount, queueFirst, tickColumn, depthColumn, runningColumn, layout, Image, view, numbersOf, imageOf}
+use Rattle.table.specs.Image.{slotCount, queueFirst, tickColumn, defaultColumn, depthColumn, runningColumn, layout, Image, view, numbersOf, imageOf}
 use Rattle.table.specs.Queues.{queue-wide, queue-even, queueAt, view-queue}
 use Rattle.table.specs.Shape.{view-shaped}
 
@@ -37,13 +37,14 @@ lossless l m h k b d e =
     same-all layout l m
     (same-one layout l m runningColumn (ap (λ (t : Table). t .running) e) refl
     (same-one layout l m depthColumn (ap (λ (t : Table). t .depth) e) refl
+    (same-one layout l m defaultColumn (ap (λ (t : Table). t .defaultQuantum) e) refl
     (same-one layout l m tickColumn (ap (λ (t : Table). t .tick) e) refl
     (same-run layout l m queueFirst queueCount (ap (λ (t : Table). t .queues) e)
     (same-next layout l m group.kind group-record.even (ap (λ (t : Table). t .groups) e)
     (same-next layout l m mutex.kind mutex-record.even (ap (λ (t : Table). t .mutexes) e)
     (same-next layout l m semaphore.kind semaphore-record.even (ap (λ (t : Table). t .semaphores) e)
     (same-next layout l m task.kind task-record.even (ap (λ (t : Table). t .tasks) e)
-    (same-none layout l m)))))))))
+    (same-none layout l m))))))))))
     b d h k
 
 -- ---- the tables whose fields fit their bytes
@@ -56,6 +57,7 @@ pub record Fits (t : Table) : Type 0 where
   pub groups : Each groupCount (λ g. group-record.Small (groupOf t g))
   pub queues : Each queueCount (λ q. Bytes (queueOf t q))
   pub tick : t .tick < 4294967296
+  pub defaultQuantum : t .defaultQuantum < 65536
   pub depth : t .depth < 256
   pub running : t .running < 256
 
@@ -71,6 +73,7 @@ view-fits l h b =
       groups = λ i p. group-record.small _ (records-fit group.kind layout l b i p);
       queues = λ q p. subst Bytes (sym (view-queue l h q p)) (bytes-take slotCount (drop (queueAt q) l) (bytes-drop (queueAt q) l b));
       tick = entry-small layout l b tickColumn 0;
+      defaultQuantum = entry-small layout l b defaultColumn 0;
       depth = entry-small layout l b depthColumn 0;
       running = entry-small layout l b runningColumn 0;
     }
@@ -86,8 +89,9 @@ sound-fits {t} s =
       mutexes = λ i h. mutex-record.fits (mutexOf t i) (s .settled .objects .mutexes i h);
       groups = λ i h. group-record.fits (groupOf t i) (s .settled .objects .groups i h);
       queues = λ q h j. omega (arith, all-at {P = λ v. v ≤ 32} (omega arith) (s .settled .queued .nothingElse q h) j);
-      tick = s .settled .tick;
-      depth = omega (arith, s .settled .depth);
+      tick = s .settled .numbers .tick;
+      defaultQuantum = omega (arith, s .settled .numbers .defaultMost);
+      depth = omega (arith, s .settled .numbers .depth);
       running = omega (arith, s .runs .range);
     }
 
@@ -111,7 +115,7 @@ module _ {t : Table} (f : Fits t) where
   gs = columnsOf group.kind (t .groups)
 
   abbrev ns : List (List ℕ)
-  ns = (t .tick ∷ []) ∷ (t .depth ∷ []) ∷ (t .running ∷ []) ∷ []
+  ns = (t .tick ∷ []) ∷ (t .defaultQuantum ∷ []) ∷ (t .depth ∷ []) ∷ (t .running ∷ []) ∷ []
 
   abbrev past-gs : List (List ℕ)
   past-gs = t .queues ++ ns
@@ -172,15 +176,16 @@ module _ {t : Table} (f : Fits t) where
   unfolding task.made semaphore.made mutex.made group.made
   numbers-fit =
       fits-all layout n long
-      (fits-one layout n runningColumn (t .running) (at-ns 2 (omega arith)) refl (f .running)
-      (fits-one layout n depthColumn (t .depth) (at-ns 1 (omega arith)) refl (f .depth)
+      (fits-one layout n runningColumn (t .running) (at-ns 3 (omega arith)) refl (f .running)
+      (fits-one layout n depthColumn (t .depth) (at-ns 2 (omega arith)) refl (f .depth)
+      (fits-one layout n defaultColumn (t .defaultQuantum) (at-ns 1 (omega arith)) refl (f .defaultQuantum)
       (fits-one layout n tickColumn (t .tick) (at-ns 0 (omega arith)) refl (f .tick)
       (fits-run layout n queueFirst queueCount slotCount queue-wide queue-even (t .queues) (f .shaped .queues) at-qs (f .shaped .slots) (f .queues)
       (fits-kind layout n group.kind group-record.even (t .groups) at-gs (λ i p. group-record.small-fits _ (f .groups i p))
       (fits-kind layout n mutex.kind mutex-record.even (t .mutexes) at-ms (λ i p. mutex-record.small-fits _ (f .mutexes i p))
       (fits-kind layout n semaphore.kind semaphore-record.even (t .semaphores) at-ss (λ i p. semaphore-record.small-fits _ (f .semaphores i p))
       (fits-kind layout n task.kind task-record.even (t .tasks) at-ts (λ i p. task-record.small-fits _ (f .tasks i p))
-      (fits-none layout n)))))))))
+      (fits-none layout n))))))))))
 
   pub image-length : Image (imageOf t)
   unfolding imageOf
@@ -198,8 +203,9 @@ module _ {t : Table} (f : Fits t) where
         groups = records-back group.kind n (t .groups) at-gs (f .shaped .groups) x;
         queues = run-back queueFirst queueCount n (t .queues) at-qs (f .shaped .queues) x;
         tick = ap (λ (c : List ℕ). getD c 0 0) (at-ns 0 (omega arith)) x;
-        depth = ap (λ (c : List ℕ). getD c 0 0) (at-ns 1 (omega arith)) x;
-        running = ap (λ (c : List ℕ). getD c 0 0) (at-ns 2 (omega arith)) x;
+        defaultQuantum = ap (λ (c : List ℕ). getD c 0 0) (at-ns 1 (omega arith)) x;
+        depth = ap (λ (c : List ℕ). getD c 0 0) (at-ns 2 (omega arith)) x;
+        running = ap (λ (c : List ℕ). getD c 0 0) (at-ns 3 (omega arith)) x;
       })
 
 pub image-small : (t : Table) → Bytes (imageOf t)

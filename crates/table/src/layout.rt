@@ -74,7 +74,9 @@ pub const QUEUE: usize = FLAGS + 4 * GROUPS;
 // Single numbers.
 pub const TICK: usize = QUEUE + SLOTS * QUEUES;
 
-pub const DEPTH: usize = TICK + 4;
+pub const DEFAULT_QUANTUM: usize = TICK + 4;
+
+pub const DEPTH: usize = DEFAULT_QUANTUM + 2;
 
 pub const RUNNING: usize = DEPTH + 1;
 

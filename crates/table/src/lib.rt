@@ -1,4 +1,5 @@
 // The kernel's table in the bytes that the caller lends, changed in place. docs/IMAGE.md has the layout.
+pub mod fresh;
 pub mod groups;
 pub mod layout;
 pub mod moves;

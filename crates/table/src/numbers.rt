@@ -1,7 +1,7 @@
-// The single numbers of the image: tick counter, lock depth, and who runs.
+// The single numbers of the image: tick counter, default quantum, lock depth, and who runs.
 ghost use mathlib.Core.Path.{_≡_};
 ghost use Prim.Native.Nat.{_<_};
-ghost use Rattle.rules.specs.Table.{withTick, withDepth, withRunning};
+ghost use Rattle.rules.specs.Table.{withTick, withDefaultQuantum, withDepth, withRunning};
 ghost use Rattle.rules.specs.Time.{callerOf};
 ghost use Rattle.table.specs.Image.{Image, view};
 use crate::layout;
@@ -18,6 +18,20 @@ pub fn set_tick(s: &mut [u8], n: u32)
     ensures { λ _. ⌜ view (now (s .exit)) ≡ withTick n (view (now (s .entry))) ⌝ }
 {
     columns::put4(s, layout::TICK, 0, n);
+}
+
+pub fn get_default(s: &[u8]) -> u16
+    requires { ⌜ Image (now s) ⌝ }
+    ensures { λ r. ⌜ r ≡ view (now (s .entry)) .defaultQuantum ⌝ }
+{
+    columns::get2(s, layout::DEFAULT_QUANTUM, 0)
+}
+
+pub fn set_default(s: &mut [u8], n: u16)
+    requires { ⌜ Image (now s) ⌝ }
+    ensures { λ _. ⌜ view (now (s .exit)) ≡ withDefaultQuantum n (view (now (s .entry))) ⌝ }
+{
+    columns::put2(s, layout::DEFAULT_QUANTUM, 0, n);
 }
 
 pub fn get_depth(s: &[u8]) -> u8

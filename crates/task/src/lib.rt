@@ -1,4 +1,4 @@
-// Task create, delete, change priority, suspend, resume.
+// Task create, delete, change priority, suspend, resume; the default quantum.
 ghost use mathlib.Core.Path.{_≡_};
 ghost use mathlib.Core.Bool.{_&&_};
 ghost use Prim.Native.Nat.{_<_};
@@ -12,6 +12,8 @@ use table::moves;
 use table::mutexes;
 use table::numbers;
 use table::tasks;
+
+pub mod quantum;
 
 // Whether task i runs while the scheduler is locked.
 fn runs_locked(s: &[u8], i: u32) -> bool
@@ -60,7 +62,8 @@ pub fn create_task(s: &mut [u8], i: u32, base: u32, quantum: u32) -> u8
     if 65535 < quantum {
         return 4;
     }
-    moves::put_task(s, i as usize, new_task(base as u8, quantum as u16));
+    let own = quantum::quantum_of(s, quantum as u16);
+    moves::put_task(s, i as usize, new_task(base as u8, own));
     moves::choose(s);
     0
 }

@@ -5,7 +5,7 @@ use Prim.Native.Nat.{ℕ, zero, suc, _+_, _-_, _≤_, _<_}
 use native.Mathlib.Omega.{arith}
 use native.Mathlib.Numerals.{add-one}
 use lib.Dec.{eqb}
-use lib.ListN.{length, List·getD-eq-default}
+use lib.ListN.{length}
 use lib.Seq.{getD-set-same}
 use borrow.Author.Tests.{eq-eqb, ne-eqb}
 use Rattle.rules.specs.declared.Task.{Task}
@@ -14,7 +14,7 @@ use Rattle.rules.specs.Table.{Table, taskOf, noTask, withTask, withLeft}
 use Rattle.rules.specs.Move.{put, rotate, ended, hasPeer}
 use Rattle.rules.specs.Time.{callerOf}
 use Rattle.rules.specs.Tick.{turned, isDue, dueEnded, dueBelow}
-use Rattle.laws.specs.queues.Put.{put-stays, place-same}
+use Rattle.laws.specs.queues.Put.{put-out, put-stays, rotate-out, place-same}
 use Rattle.tick.specs.Marks.{isAt, someAt}
 
 -- ---- two tests at once, and a third
@@ -29,9 +29,10 @@ both-are false b p e = absurd (true≢false e)
 both-are true false p e = absurd (true≢false e)
 both-are true true p e = refl
 
-or-true : (b : Bool) → b || true ≡ true
-or-true false = refl
-or-true true = refl
+same-all : (t : Table) (a b : Bool) → t ≡ cond a t (cond b t t)
+same-all t true b = refl
+same-all t false true = refl
+same-all t false false = refl
 
 -- ---- the turn of the running task
 
@@ -40,20 +41,20 @@ abbrev ofTurn : ℕ → ℕ → Table → Table
 ofTurn left i u = cond (eqb left 0 && (eqb (u .depth) 0 && hasPeer i u)) (rotate i u) u
 
 module _ (t : Table) {i : ℕ} (caller : i ≡ callerOf t) (size : length (t .tasks) ≡ taskCount) where
-  -- no task has that number
+  -- no task has that number: nothing is put and nothing goes behind
   pub turned-none : taskCount ≤ i → t ≡ turned t
   unfolding turned
   turned-none l =
-      let none : taskOf t i ≡ noTask = List·getD-eq-default (t .tasks) noTask (omega arith) in
-      rw (← caller, none, or-true (eqb (t .running) 0))
+      rw (← caller, put-out i (withLeft (taskOf t i .left - 1) (taskOf t i)) t l, rotate-out i t l)
+      (same-all t (eqb (t .running) 0) (eqb (taskOf t i .left) 0 && (eqb (t .depth) 0 && hasPeer i t)))
 
-  module _ (l : i < taskCount) {r q : ℕ} (runs : r ≡ t .running) (quantum : q ≡ taskOf t i .quantum) where
-    pub turned-not : eqb r 0 || eqb q 0 ≡ true → t ≡ turned t
+  module _ (l : i < taskCount) {r : ℕ} (runs : r ≡ t .running) where
+    pub turned-not : r ≡ 0 → t ≡ turned t
     unfolding turned
-    turned-not e = rw (← caller, ← runs, ← quantum, e)
+    turned-not e = rw (eq-eqb (t .running) 0 (sym runs ∙ e))
 
     module _ {left : ℕ} {u : Table} {b : Bool} (less : left ≡ taskOf t i .left - 1) (stored : u ≡ withTask i (withLeft left (taskOf t i)) t)
-        (over : b ≡ eqb left 0 && (eqb (u .depth) 0 && hasPeer i u)) (goes : eqb r 0 || eqb q 0 ≡ false) where
+        (over : b ≡ eqb left 0 && (eqb (u .depth) 0 && hasPeer i u)) (goes : r ≡ 0 → ⊥) where
       -- no other field of the task changes, and no queue
       shorter : put i (withLeft (taskOf t i .left - 1) (taskOf t i)) t ≡ u
       shorter =
@@ -66,7 +67,7 @@ module _ (t : Table) {i : ℕ} (caller : i ≡ callerOf t) (size : length (t .ta
 
       turned-to : ofTurn left i u ≡ turned t
       unfolding turned
-      turned-to = rw (← caller, (rw (runs, quantum) at goes), shorter, now-left)
+      turned-to = rw (← caller, ne-eqb (t .running) 0 (λ e. goes (runs ∙ e)), shorter, now-left)
 
       pub turned-over : b ≡ true → rotate i u ≡ turned t
       turned-over e = rw (← over, e) at turned-to

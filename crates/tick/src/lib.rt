@@ -43,7 +43,7 @@ fn turn(s: &mut [u8])
     if 32 <= i {
         return;
     }
-    if (numbers::get_running(s) == 0) | (tasks::get_quantum(s, i) == 0) {
+    if numbers::get_running(s) == 0 {
         return;
     }
     let left = one_less(tasks::get_left(s, i));

@@ -52,6 +52,7 @@ pub data Broken (t : Table) : (rule number : ℕ) → Type 0 where
   taskDelayMark : {i : ℕ} → i < taskCount → ((taskOf t i .state ≡ delayed → taskOf t i .marked ≡ 1) → ⊥) → Broken t 0x12 i
   taskLeftMost : {i : ℕ} → i < taskCount → (taskOf t i .left ≤ taskOf t i .quantum → ⊥) → Broken t 0x13 i
   taskAsks : {i : ℕ} → i < taskCount → ((taskOf t i .state ≡ waitsFlags → 1 ≤ taskOf t i .mask) → ⊥) → Broken t 0x14 i
+  taskTurn : {i : ℕ} → i < taskCount → ((taskOf t i .used ≡ 1 → 1 ≤ taskOf t i .quantum) → ⊥) → Broken t 0x15 i
   -- ---- a semaphore
   semaphoreUsed : {i : ℕ} → i < semaphoreCount → (semaphoreOf t i .used ≤ 1 → ⊥) → Broken t 0x20 i
   semaphoreCounts : {i : ℕ} → i < semaphoreCount → (semaphoreOf t i .count ≤ mostCount → ⊥) → Broken t 0x21 i
@@ -85,3 +86,5 @@ pub data Broken (t : Table) : (rule number : ℕ) → Type 0 where
   runningRange : (t .running ≤ taskCount → ⊥) → Broken t 0xB2 0
   runningFirst : ((t .depth ≡ 0 → t .running ≡ firstIn ableQueue t) → ⊥) → Broken t 0xB3 0
   runningAble : (((t .depth ≡ 0 → ⊥) → (t .running ≡ 0) ⊎ (isAble (taskOf t (t .running - 1)) ≡ true)) → ⊥) → Broken t 0xB4 0
+  defaultLeast : (1 ≤ t .defaultQuantum → ⊥) → Broken t 0xB5 0
+  defaultMost : (t .defaultQuantum ≤ mostQuantum → ⊥) → Broken t 0xB6 0

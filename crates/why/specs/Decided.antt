@@ -16,7 +16,7 @@ use Rattle.rules.specs.Family.{placeOf}
 use Rattle.rules.specs.Sound.{Shaped, once}
 use Rattle.rules.specs.Decides.{Decides, equals, at-most, itself, fails, if-so, either, each-of}
 use Rattle.rules.specs.Tested.{no-task, no-semaphore, no-mutex, no-group, ends, worked}
-use Rattle.why.specs.Broken.{OfAwaited, Broken, queueAt, slotAt, taskUsed, taskBase, taskWork, taskSuspend, taskQuantum, taskLeft, taskState, taskObject, taskMarked, taskDue, taskOutcome, taskMask, taskTest, taskConsume, taskFree, taskPlainMark, taskDelayMark, taskLeftMost, taskAsks, semaphoreUsed, semaphoreCounts, semaphoreFree, mutexUsed, mutexHolder, mutexNesting, mutexFree, mutexUnheld, mutexHeld, groupUsed, groupFlags, groupFree, waitUsed, waitNothing, waitApart, holderUsed, queuePlaces, queueNothingElse, queueOrdered, taskWorked, taskNotDue, tickRange, depthRange, runningRange, runningFirst, runningAble}
+use Rattle.why.specs.Broken.{OfAwaited, Broken, queueAt, slotAt, taskUsed, taskBase, taskWork, taskSuspend, taskQuantum, taskLeft, taskState, taskObject, taskMarked, taskDue, taskOutcome, taskMask, taskTest, taskConsume, taskFree, taskPlainMark, taskDelayMark, taskLeftMost, taskAsks, taskTurn, semaphoreUsed, semaphoreCounts, semaphoreFree, mutexUsed, mutexHolder, mutexNesting, mutexFree, mutexUnheld, mutexHeld, groupUsed, groupFlags, groupFree, waitUsed, waitNothing, waitApart, holderUsed, queuePlaces, queueNothingElse, queueOrdered, taskWorked, taskNotDue, tickRange, depthRange, runningRange, runningFirst, runningAble, defaultLeast, defaultMost}
 use Rattle.why.specs.Tests.{Test, tests, keptIn, isKept, ruleEnd, recordEnd, ofAwaited, isObjectUsed, offersNothing, isApart, isHolderUsed, isPlaced, mayRun}
 use Rattle.why.specs.TestLaws.{Every, end, with}
 use Rattle.why.specs.Slots.{stand-decides}
@@ -100,6 +100,7 @@ broken-fails {t} w (taskPlainMark {i} h n) = (omega arith, h, outside h (if-so e
 broken-fails {t} w (taskDelayMark {i} h n) = (omega arith, h, outside h (if-so equals equals) n)
 broken-fails {t} w (taskLeftMost {i} h n) = (omega arith, h, outside h at-most n)
 broken-fails {t} w (taskAsks {i} h n) = (omega arith, h, outside h (if-so equals at-most) n)
+broken-fails {t} w (taskTurn {i} h n) = (omega arith, h, outside h (if-so equals at-most) n)
 broken-fails {t} w (semaphoreUsed {i} h n) = (omega arith, omega arith, outside h at-most n)
 broken-fails {t} w (semaphoreCounts {i} h n) = (omega arith, omega arith, outside h at-most n)
 broken-fails {t} w (semaphoreFree {i} h n) = (omega arith, omega arith, outside h (if-so equals (no-semaphore _)) n)
@@ -126,6 +127,8 @@ broken-fails {t} w (depthRange n) = (omega arith, omega arith, refuted at-most n
 broken-fails {t} w (runningRange n) = (omega arith, omega arith, refuted at-most n)
 broken-fails {t} w (runningFirst n) = (omega arith, omega arith, refuted (if-so equals equals) n)
 broken-fails {t} w (runningAble n) = (omega arith, omega arith, refuted (if-so (fails equals) (run-decides t)) n)
+broken-fails {t} w (defaultLeast n) = (omega arith, omega arith, refuted at-most n)
+broken-fails {t} w (defaultMost n) = (omega arith, omega arith, refuted at-most n)
 
 -- ---- what fails is broken
 
@@ -186,6 +189,7 @@ all-break t w =
     and (λ i h e. taskDelayMark h (refutes (if-so equals equals) e))
     and (λ i h e. taskLeftMost h (refutes at-most e))
     and (λ i h e. taskAsks h (refutes (if-so equals at-most) e))
+    and (λ i h e. taskTurn h (refutes (if-so equals at-most) e))
     and (λ i h e. semaphoreUsed h (refutes at-most e))
     and (λ i h e. semaphoreCounts h (refutes at-most e))
     and (λ i h e. semaphoreFree h (refutes (if-so equals (no-semaphore _)) e))
@@ -212,6 +216,8 @@ all-break t w =
     and (λ i h e. at-zero h (runningRange (refutes at-most e)))
     and (λ i h e. at-zero h (runningFirst (refutes (if-so equals equals) e)))
     and (λ i h e. at-zero h (runningAble (refutes (if-so (fails equals) (run-decides t)) e)))
+    and (λ i h e. at-zero h (defaultLeast (refutes at-most e)))
+    and (λ i h e. at-zero h (defaultMost (refutes at-most e)))
     and tt
     )
 

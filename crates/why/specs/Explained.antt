@@ -14,7 +14,7 @@ use Rattle.rules.specs.Sound.{once, Shaped, TaskInRange, SoundTask, SoundObject
 use Rattle.rules.specs.Decides.{equals, at-most, fails, if-so}
 use Rattle.rules.specs.Tested.{no-task, no-semaphore, no-mutex, no-group}
 use Rattle.why.specs.declared.Reason.{Reason}
-use Rattle.why.specs.Broken.{Broken, queueAt, slotAt, taskUsed, taskBase, taskWork, taskSuspend, taskQuantum, taskLeft, taskState, taskObject, taskMarked, taskDue, taskOutcome, taskMask, taskTest, taskConsume, taskFree, taskPlainMark, taskDelayMark, taskLeftMost, taskAsks, semaphoreUsed, semaphoreCounts, semaphoreFree, mutexUsed, mutexHolder, mutexNesting, mutexFree, mutexUnheld, mutexHeld, groupUsed, groupFlags, groupFree, waitUsed, waitNothing, waitApart, holderUsed, queuePlaces, queueNothingElse, queueOrdered, taskWorked, taskNotDue, tickRange, depthRange, runningRange, runningFirst, runningAble}
+use Rattle.why.specs.Broken.{Broken, queueAt, slotAt, taskUsed, taskBase, taskWork, taskSuspend, taskQuantum, taskLeft, taskState, taskObject, taskMarked, taskDue, taskOutcome, taskMask, taskTest, taskConsume, taskFree, taskPlainMark, taskDelayMark, taskLeftMost, taskAsks, taskTurn, semaphoreUsed, semaphoreCounts, semaphoreFree, mutexUsed, mutexHolder, mutexNesting, mutexFree, mutexUnheld, mutexHeld, groupUsed, groupFlags, groupFree, waitUsed, waitNothing, waitApart, holderUsed, queuePlaces, queueNothingElse, queueOrdered, taskWorked, taskNotDue, tickRange, depthRange, runningRange, runningFirst, runningAble, defaultLeast, defaultMost}
 use Rattle.why.specs.Tests.{whyOf, reason, ruleEnd, keptIn, isKept}
 use Rattle.why.specs.Slots.{all-slots, slot-of, ordered-slots, slots-ordered, stand-decides, each-slot}
 use Rattle.why.specs.Decided.{unrefuted, used-decides, nothing-decides, apart-decides, holder-decides, work-decides, placed-decides, run-decides, broken-fails, fails-broken}
@@ -47,6 +47,7 @@ sound-keeps {t} s (taskPlainMark {i} h n) = n (s .settled .tasks i h .plainMark)
 sound-keeps {t} s (taskDelayMark {i} h n) = n (s .settled .tasks i h .delayMark)
 sound-keeps {t} s (taskLeftMost {i} h n) = n (s .settled .tasks i h .left)
 sound-keeps {t} s (taskAsks {i} h n) = n (s .settled .tasks i h .asks)
+sound-keeps {t} s (taskTurn {i} h n) = n (s .settled .tasks i h .turn)
 sound-keeps {t} s (semaphoreUsed {i} h n) = n (s .settled .objects .semaphores i h .used)
 sound-keeps {t} s (semaphoreCounts {i} h n) = n (s .settled .objects .semaphores i h .count)
 sound-keeps {t} s (semaphoreFree {i} h n) = n (s .settled .objects .semaphores i h .free)
@@ -68,11 +69,13 @@ sound-keeps {t} s (queueNothingElse {n = i} h n) = n (slot-of (s .settled .queue
 sound-keeps {t} s (queueOrdered {n = i} h n) = n (slots-ordered (works t) (s .settled .queued .ordered (queueAt i) (omega arith)) (slotAt i) (slot-inside s i h))
 sound-keeps {t} s (taskWorked {i} h n) = n (s .settled .worked i h)
 sound-keeps {t} s (taskNotDue {i} h n) = n (s .notDue i h)
-sound-keeps {t} s (tickRange n) = n (s .settled .tick)
-sound-keeps {t} s (depthRange n) = n (s .settled .depth)
+sound-keeps {t} s (tickRange n) = n (s .settled .numbers .tick)
+sound-keeps {t} s (depthRange n) = n (s .settled .numbers .depth)
 sound-keeps {t} s (runningRange n) = n (s .runs .range)
 sound-keeps {t} s (runningFirst n) = n (s .runs .first)
 sound-keeps {t} s (runningAble n) = n (s .runs .able)
+sound-keeps {t} s (defaultLeast n) = n (s .settled .numbers .defaultLeast)
+sound-keeps {t} s (defaultMost n) = n (s .settled .numbers .defaultMost)
 
 -- ---- a table that breaks none is sound
 
@@ -105,6 +108,7 @@ module _ {t : Table} (w : Shaped t) (keeps : (c i : ℕ) → Broken t c i → �
         delayMark = unrefuted (if-so equals equals) (λ n. keeps _ i (taskDelayMark h n));
         left = unrefuted at-most (λ n. keeps _ i (taskLeftMost h n));
         asks = unrefuted (if-so equals at-most) (λ n. keeps _ i (taskAsks h n));
+        turn = unrefuted (if-so equals at-most) (λ n. keeps _ i (taskTurn h n));
       }
 
   objects : SoundObjects t
@@ -160,8 +164,12 @@ module _ {t : Table} (w : Shaped t) (keeps : (c i : ℕ) → Broken t c i → �
           worked = λ i h. unrefuted (work-decides t i w h) (λ n. keeps _ i (taskWorked h n));
           tasks = tasks;
           objects = objects;
-          tick = unrefuted at-most (λ n. keeps _ 0 (tickRange n));
-          depth = unrefuted at-most (λ n. keeps _ 0 (depthRange n));
+          numbers = record {
+            tick = unrefuted at-most (λ n. keeps _ 0 (tickRange n));
+            defaultLeast = unrefuted at-most (λ n. keeps _ 0 (defaultLeast n));
+            defaultMost = unrefuted at-most (λ n. keeps _ 0 (defaultMost n));
+            depth = unrefuted at-most (λ n. keeps _ 0 (depthRange n));
+          };
         };
         notDue = λ i h. unrefuted (if-so equals (fails equals)) (λ n. keeps _ i (taskNotDue h n));
         runs = record {

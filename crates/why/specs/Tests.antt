@@ -66,6 +66,7 @@ taskTests =
     ∷ ofTask 0x12 (λ k. implies (eqb (k .state) delayed) (eqb (k .marked) 1))
     ∷ ofTask 0x13 (λ k. leb (k .left) (k .quantum))
     ∷ ofTask 0x14 (λ k. implies (eqb (k .state) waitsFlags) (leb 1 (k .mask)))
+    ∷ ofTask 0x15 (λ k. implies (eqb (k .used) 1) (leb 1 (k .quantum)))
     ∷ []
 
 abbrev pub objectTests : List Test
@@ -148,6 +149,8 @@ singleTests =
     ∷ single 0xB2 (λ t. leb (t .running) taskCount)
     ∷ single 0xB3 (λ t. implies (eqb (t .depth) 0) (eqb (t .running) (firstIn ableQueue t)))
     ∷ single 0xB4 (λ t. implies (not (eqb (t .depth) 0)) (mayRun t (t .running)))
+    ∷ single 0xB5 (λ t. leb 1 (t .defaultQuantum))
+    ∷ single 0xB6 (λ t. leb (t .defaultQuantum) mostQuantum)
     ∷ []
 
 abbrev pub tests : List Test

@@ -35,6 +35,8 @@ pub fn is_right(s: &[u8], rule: u32, i: usize) -> bool
         0xB2 => v <= 32,
         0xB3 => (depth != 0) | (v == moves::first_in(s, layout::ABLE_QUEUE)),
         0xB4 => (depth == 0) | may_run(s, v),
+        0xB5 => 1 <= numbers::get_default(s),
+        0xB6 => (numbers::get_default(s) as u32) <= 65535,
         _ => true,
     }
 }

@@ -125,6 +125,7 @@ pub fn is_right(s: &[u8], rule: u32, i: usize) -> bool
         0x12 => (tasks::get_state(s, i) != 1) | (tasks::get_marked(s, i) == 1),
         0x13 => tasks::get_left(s, i) <= tasks::get_quantum(s, i),
         0x14 => (tasks::get_state(s, i) != 4) | (1 <= tasks::get_mask(s, i)),
+        0x15 => (tasks::get_used(s, i) != 1) | (1 <= tasks::get_quantum(s, i)),
         _ => true,
     }
 }

@@ -56,6 +56,7 @@ impl Kernel {
             0x09 => self.lock(),
             0x0A => self.unlock(),
             0x0B => self.tick_call(),
+            0x0D => self.set_default_quantum(a),
             0x10 => self.semaphore_create(a, b),
             0x11 => self.semaphore_delete(a, b),
             0x12 => self.semaphore_wait(a, b, c),

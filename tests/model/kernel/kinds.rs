@@ -2,7 +2,7 @@
 use super::{Call, NUMBERS};
 
 /// The kinds of the tape's list with the bytes of each number in the body.
-pub const KINDS: [(u8, &str, &[usize]); 26] = [
+pub const KINDS: [(u8, &str, &[usize]); 27] = [
     (0x01, "task create", &[1, 1, 2]),
     (0x02, "task delete", &[1]),
     (0x03, "change priority", &[1, 1]),
@@ -14,6 +14,7 @@ pub const KINDS: [(u8, &str, &[usize]); 26] = [
     (0x09, "lock", &[]),
     (0x0A, "unlock", &[]),
     (0x0B, "tick", &[]),
+    (0x0D, "default quantum", &[2]),
     (0x10, "semaphore create", &[1, 4]),
     (0x11, "semaphore delete", &[1, 1]),
     (0x12, "semaphore wait", &[1, 1, 4]),

@@ -2,7 +2,7 @@
 use super::{Kernel, Place, State, Task, Wanted, LAST_PRIORITY, MOST, TASKS};
 
 /// The names of the standing rules, in the paper's order; the first is of the image alone.
-pub const RULES: [&str; 19] = [
+pub const RULES: [&str; 20] = [
     "the image shows a table",
     "fields in range",
     "free: zero fields",
@@ -21,6 +21,7 @@ pub const RULES: [&str; 19] = [
     "marks fit the states",
     "no mark equals the tick counter",
     "left at most the quantum",
+    "in use: quantum above 0",
     "the running task",
 ];
 
@@ -51,12 +52,13 @@ impl Kernel {
             self.marks_fit(),
             self.tasks.iter().all(|task| task.mark != Some(self.tick)),
             self.tasks.iter().all(|task| task.left <= task.quantum),
+            self.all_have_a_quantum(),
             self.runs_rightly(),
         ];
         (0..RULES.len()).filter(|&rule| !holds[rule]).collect()
     }
 
-    /// "All fields are in range"
+    /// "All fields are in range"; "a default quantum, 1 to 65,535"
     fn in_range(&self) -> bool {
         let priority = |p: u8| u32::from(p) <= LAST_PRIORITY;
         let tasks = self
@@ -64,7 +66,8 @@ impl Kernel {
             .iter()
             .all(|t| priority(t.base) && priority(t.working) && t.suspends <= MOST && t.outcome <= 3);
         let no_mask = |t: &Task| matches!(t.state, State::Flags(_, Wanted { mask: 0, .. }));
-        tasks && !self.tasks.iter().any(no_mask) && self.mutexes.iter().all(|m| m.nesting <= MOST) && self.depth <= MOST
+        let numbers = self.default_quantum > 0 && self.depth <= MOST;
+        tasks && !self.tasks.iter().any(no_mask) && self.mutexes.iter().all(|m| m.nesting <= MOST) && numbers
     }
 
     /// "a free number has zero fields"
@@ -124,6 +127,11 @@ impl Kernel {
             State::Delayed => task.mark.is_some(),
             _ => true,
         })
+    }
+
+    /// "A sound table then has no task in use with quantum 0."
+    fn all_have_a_quantum(&self) -> bool {
+        self.tasks.iter().all(|task| !task.used || task.quantum > 0)
     }
 
     /// "At lock depth 0 the running task is the first of the able queue, or none if that is empty; at

@@ -1,26 +1,36 @@
-//! Tasks: create, delete, change priority, suspend, resume.
+//! Tasks: create, delete, change priority, suspend, resume; the default quantum.
 use super::calls::{number, refuse, Answer};
-use super::{Kernel, State, Task, LAST_PRIORITY, MOST, TASKS};
+use super::{Kernel, State, Task, LAST_PRIORITY, MOST, MOST_QUANTUM, TASKS};
 
 impl Kernel {
-    /// "*Task create* (plain, suspend 0, left = quantum, outcome 0)."
+    /// "*Task create* (plain, suspend 0, left = quantum, outcome 0)." "a task created with 0 takes the default of
+    /// that moment"
     pub(super) fn task_create(&mut self, n: u32, base: u32, quantum: u32) -> Answer {
         let t = number(n, TASKS)?;
         refuse(self.tasks[t].used, 3)?;
         refuse(base > LAST_PRIORITY, 4)?;
-        refuse(quantum > 65535, 4)?;
+        refuse(quantum > MOST_QUANTUM, 4)?;
+        let quantum = if quantum == 0 { self.default_quantum } else { quantum as u16 };
         self.tasks[t] = Task {
             used: true,
             base: base as u8,
             working: base as u8,
             suspends: 0,
-            quantum: quantum as u16,
-            left: quantum as u16,
+            quantum,
+            left: quantum,
             state: State::Plain,
             mark: None,
             outcome: 0,
         };
         self.enter_if_able(t);
+        Ok(0)
+    }
+
+    /// "a default quantum, 1 to 65,535 [..]; a new call sets it"; "setting the default to 0 gets 4", and so does what
+    /// only the port can say, a number above 65,535
+    pub(super) fn set_default_quantum(&mut self, n: u32) -> Answer {
+        refuse(n == 0 || n > MOST_QUANTUM, 4)?;
+        self.default_quantum = n as u16;
         Ok(0)
     }
 

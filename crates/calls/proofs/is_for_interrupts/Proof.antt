@@ -7,7 +7,7 @@ use types.Run.{OneOf, miss}
 use borrow.Author.Needs.{needs}
 use Rattle.rules.proofs.Call as Call′
 use Rattle.rules.specs.declared.Call.{Call}
-use Rattle.rules.specs.declared.Call.the-variants.{TaskCreate, TaskDelete, ChangePriority, Suspend, Resume, Yield, Delay, DelayResume, Lock, Unlock, Tick, SemaphoreCreate, SemaphoreDelete, SemaphoreWait, SemaphorePost, SemaphoreAbort, MutexCreate, MutexDelete, MutexWait, MutexPost, MutexAbort, GroupCreate, GroupDelete, GroupWait, GroupPost, GroupAbort}
+use Rattle.rules.specs.declared.Call.the-variants.{TaskCreate, TaskDelete, ChangePriority, Suspend, Resume, Yield, Delay, DelayResume, Lock, Unlock, Tick, SetDefaultQuantum, SemaphoreCreate, SemaphoreDelete, SemaphoreWait, SemaphorePost, SemaphoreAbort, MutexCreate, MutexDelete, MutexWait, MutexPost, MutexAbort, GroupCreate, GroupDelete, GroupWait, GroupPost, GroupAbort}
 use Rattle.rules.specs.Kinds.{toldIn, spelled}
 use Rattle.rules.specs.Step.{forInterrupts}
 use Rattle.calls.proofs.is_for_interrupts.Statement.{statement}
@@ -15,7 +15,7 @@ use Rattle.calls.proofs.is_for_interrupts.Tie as tie
 
 -- The numbers of the variants of `Call`, but for Tick, SemaphorePost and GroupPost.
 abbrev others : List ℕ
-others = 0 ∷ 1 ∷ 2 ∷ 3 ∷ 4 ∷ 5 ∷ 6 ∷ 7 ∷ 8 ∷ 9 ∷ 11 ∷ 12 ∷ 13 ∷ 15 ∷ 16 ∷ 17 ∷ 18 ∷ 19 ∷ 20 ∷ 21 ∷ 22 ∷ 23 ∷ 25 ∷ []
+others = 0 ∷ 1 ∷ 2 ∷ 3 ∷ 4 ∷ 5 ∷ 6 ∷ 7 ∷ 8 ∷ 9 ∷ 11 ∷ 12 ∷ 13 ∷ 14 ∷ 16 ∷ 17 ∷ 18 ∷ 19 ∷ 20 ∷ 21 ∷ 22 ∷ 23 ∷ 24 ∷ 26 ∷ []
 
 other : (c : Call) → OneOf others (Declared.tagOf Call′.the-type c) → false ≡ forInterrupts c
 unfolding toldIn spelled forInterrupts
@@ -30,10 +30,11 @@ other (DelayResume a) h = refl
 other Lock h = refl
 other Unlock h = refl
 other Tick h = absurd (miss others 10 tt h)
+other (SetDefaultQuantum a) h = refl
 other (SemaphoreCreate a b) h = refl
 other (SemaphoreDelete a b) h = refl
 other (SemaphoreWait a b c) h = refl
-other (SemaphorePost a) h = absurd (miss others 14 tt h)
+other (SemaphorePost a) h = absurd (miss others 15 tt h)
 other (SemaphoreAbort a) h = refl
 other (MutexCreate a) h = refl
 other (MutexDelete a b) h = refl
@@ -43,7 +44,7 @@ other (MutexAbort a) h = refl
 other (GroupCreate a b) h = refl
 other (GroupDelete a b) h = refl
 other (GroupWait a b c d e f) h = refl
-other (GroupPost a b c) h = absurd (miss others 24 tt h)
+other (GroupPost a b c) h = absurd (miss others 25 tt h)
 other (GroupAbort a) h = refl
 
 pub is-for-interrupts-spec : {M : Type 1} → statement M

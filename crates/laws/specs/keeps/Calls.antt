@@ -4,10 +4,11 @@ use mathlib.Core.Logic.{inl}
 use Prim.Native.Nat.{_+_, _-_}
 use native.Mathlib.Omega.{arith}
 use Rattle.rules.specs.Sizes.{delayed, given}
-use Rattle.rules.specs.Table.{Table, nothingAsked, noTask, heldBy}
+use Rattle.rules.specs.Table.{Table, nothingAsked, noTask, heldBy, withDepth, withDefaultQuantum}
 use Rattle.rules.specs.Sound.{Sound}
 use Rattle.rules.specs.Time.{markIn, yield, delay, delayResume}
 use Rattle.rules.specs.Lock.{lock, unlock}
+use Rattle.rules.specs.Quantum.{quantumOf, setDefault}
 use Rattle.rules.specs.Object.{waits}
 use Rattle.rules.specs.Semaphore as semaphore
 use Rattle.rules.specs.Family.{ofState}
@@ -15,11 +16,11 @@ use Rattle.rules.specs.Mutex as mutex
 use Rattle.rules.specs.Kinds.{spelled}
 use Rattle.rules.specs.Step.{changeBy, Bounded}
 use Rattle.rules.specs.declared.Call.{Call}
-use Rattle.rules.specs.declared.Call.the-variants.{TaskCreate, TaskDelete, ChangePriority, Suspend, Resume, Yield, Delay, DelayResume, Lock, Unlock, Tick, SemaphoreCreate, SemaphoreDelete, SemaphoreWait, SemaphorePost, SemaphoreAbort, MutexCreate, MutexDelete, MutexWait, MutexPost, MutexAbort, GroupCreate, GroupDelete, GroupWait, GroupPost, GroupAbort}
+use Rattle.rules.specs.declared.Call.the-variants.{TaskCreate, TaskDelete, ChangePriority, Suspend, Resume, Yield, Delay, DelayResume, Lock, Unlock, Tick, SetDefaultQuantum, SemaphoreCreate, SemaphoreDelete, SemaphoreWait, SemaphorePost, SemaphoreAbort, MutexCreate, MutexDelete, MutexWait, MutexPost, MutexAbort, GroupCreate, GroupDelete, GroupWait, GroupPost, GroupAbort}
 use Rattle.laws.specs.keeps.Becomes.{caller-used}
-use Rattle.laws.specs.keeps.Running.{depth-runs}
+use Rattle.laws.specs.keeps.Running.{may-run-on, depth-runs}
 use Rattle.laws.specs.keeps.Ending.{ticked-keeps}
-use Rattle.laws.specs.keeps.Records.{created-right, free-right, base-right, suspend-right, marked-right, mark-later, asks-nothing}
+use Rattle.laws.specs.keeps.Records.{own-least, own-most, created-right, free-right, base-right, suspend-right, marked-right, mark-later, asks-nothing}
 use Rattle.laws.specs.chains.Priorities.{created-worked, renewed-worked, changePriority-worked, delay-worked}
 use Rattle.rules.specs.Move.{next}
 use Rattle.rules.specs.Task.{create, delete, changePriority, suspend, resume}
@@ -36,18 +37,18 @@ use Rattle.laws.specs.keeps.Group as group-call
 
 module _ {t : Table} (s : Sound t) where
   pub change-keeps : (c : Call) → Bounded c → Presumes c t → BeforeChoice (changeBy c t)
-  unfolding changeBy Bounded spelled create delete changePriority suspend resume delay ofState yield delayResume lock unlock semaphore.create mutex.create
+  unfolding changeBy Bounded spelled create delete changePriority suspend resume delay ofState yield delayResume lock unlock setDefault semaphore.create mutex.create
   change-keeps (TaskCreate i base quantum) b (l, u, p, q) =
       put-keeps (midway s)
       (record {
         task = l;
-        right = created-right p q;
+        right = created-right p (own-least (s .settled .numbers) quantum) (own-most (s .settled .numbers) quantum q);
         notDue = omega arith;
         waits = no-wait t i 0 0 (omega arith);
         holds = λ m n e. refl;
         runs = λ d e a. record { used = refl; state = refl; suspend = refl };
       })
-      (created-worked (s .settled) i base quantum l (omega (arith, s .settled .tasks i l .inRange .used)))
+      (created-worked (s .settled) i base (quantumOf quantum t) l (omega (arith, s .settled .tasks i l .inRange .used)))
   change-keeps (TaskDelete i) b (l, u, other, none) =
       put-walk-keeps (midway s)
       (record {
@@ -76,7 +77,7 @@ module _ {t : Table} (s : Sound t) where
       (record {
         task = (caller-task s);
         right = marked-right (s .settled .tasks _ (caller-task s)) u delayed 0 nothingAsked (omega arith) (omega arith) (asks-nothing (omega arith)) n t (omega arith);
-        notDue = λ l e. mark-later n t (s .settled .tick) (omega arith) (b 0);
+        notDue = λ l e. mark-later n t (s .settled .numbers .tick) (omega arith) (b 0);
         waits = no-wait t _ 1 0 (omega arith);
         holds = λ m l e. u;
         runs = λ d. absurd (d z);
@@ -85,17 +86,23 @@ module _ {t : Table} (s : Sound t) where
   change-keeps (DelayResume i) b (l, u, e) = ended-keeps (midway s) (record { task = l; used = u; state = λ z. omega arith }) given (omega arith)
   change-keeps Lock b n =
       record {
-        settled = framed-settled (s .settled) (t .tick) (t .depth + 1) (t .running) (s .settled .tick) (omega arith);
+        settled = framed-settled (s .settled) (withDepth (t .depth + 1) t) (omega (arith, s .settled .numbers));
         notDue = s .notDue;
         runs = depth-runs (s .settled .queued) (s .runs) (t .depth + 1);
       }
   change-keeps Unlock b n =
       record {
-        settled = framed-settled (s .settled) (t .tick) (t .depth - 1) (t .running) (s .settled .tick) (omega (arith, s .settled .depth));
+        settled = framed-settled (s .settled) (withDepth (t .depth - 1) t) (omega (arith, s .settled .numbers));
         notDue = s .notDue;
         runs = depth-runs (s .settled .queued) (s .runs) (t .depth - 1);
       }
   change-keeps Tick b n = ticked-keeps s
+  change-keeps (SetDefaultQuantum n) b (some, most) =
+      record {
+        settled = framed-settled (s .settled) (withDefaultQuantum n t) (omega (arith, s .settled .numbers));
+        notDue = s .notDue;
+        runs = record { range = s .runs .range; able = may-run-on (s .runs) .able };
+      }
   change-keeps (SemaphoreCreate o n) b (l, u) =
       semaphore-call.counting-keeps s o _ l refl (omega (arith, b 1)) (no-queue among-semaphores (s .settled .queued) o l (s .settled .tasks) (s .settled .objects) (inl u))
   change-keeps (SemaphoreDelete o force) b l = delete-keeps semaphores-lawful (midway s) o l

@@ -1,7 +1,7 @@
 -- Waits that end one after another, and the tick: they keep the groups, a queue is empty once its last waiter has left, and after a tick
 -- no mark is due.
 use mathlib.Core.Path.{_≡_, refl, sym, ap, _∙_}
-use mathlib.Core.Logic.{inl, ⊎-elim, _≢_}
+use mathlib.Core.Logic.{⊎-elim, _≢_}
 use mathlib.Core.Bool.{true, cond, _&&_}
 use Prim.Native.Nat.{ℕ, zero, suc, _+_, _-_, _%_, _≤_, _<_}
 use native.Mathlib.Nat.{not-suc-le-zero, eq-or-lt-of-le, le-of-suc-le-suc}
@@ -13,7 +13,7 @@ use Rattle.rules.specs.Sizes.{taskCount, ticksRound, delayed, given, timedOut, 
 use Rattle.rules.specs.Table.{Table, taskOf, queueCount, ableQueue, slotIn, firstIn, isAble, withTick, withLeft}
 use Rattle.rules.specs.Family.{placeOf}
 use Rattle.rules.specs.Move.{ready, ended, endedAll, hasPeer}
-use Rattle.rules.specs.Decides.{Decides, equals, either, both}
+use Rattle.rules.specs.Decides.{Decides, equals, both}
 use Rattle.rules.specs.Sound.{Empty, Sound, SoundWithin}
 use Rattle.rules.specs.Time.{callerOf}
 use Rattle.rules.specs.Object.{emptied}
@@ -133,9 +133,9 @@ dues-keep (suc n) l h = due-keeps n l (dues-keep n (omega arith) h)
 pub turned-keeps : {n : ℕ} {t : Table} → Midway n t → callerOf t < taskCount → (t .running ≢ 0 → isAble (caller t) ≡ true) → Midway n (turned t)
 unfolding turned
 turned-keeps {n} {t} h l able =
-    pick (Midway n) (either (equals {x = t .running} {y = 0}) (equals {x = caller t .quantum} {y = 0}))
+    pick (Midway n) equals
     (λ e. h)
-    (λ runs. whichever (Midway n) (eqb (taskOf (shorter t) (callerOf t) .left) 0 && (eqb (shorter t .depth) 0 && hasPeer (callerOf t) (shorter t))) (rotate-keeps less l (still (able (λ z. runs (inl z))))) less)
+    (λ runs. whichever (Midway n) (eqb (taskOf (shorter t) (callerOf t) .left) 0 && (eqb (shorter t .depth) 0 && hasPeer (callerOf t) (shorter t))) (rotate-keeps less l (still (able runs))) less)
   where
     k : Task
     k = withLeft (caller t .left - 1) (caller t)
@@ -153,7 +153,7 @@ counted-keeps {t} s =
     let h = s .settled in
     let r = s .runs in
     record {
-      settled = framed-settled h ((t .tick + 1) % ticksRound) (t .depth) (t .running) (omega arith) (h .depth);
+      settled = framed-settled h (withTick ((t .tick + 1) % ticksRound) t) (omega (arith, h .numbers));
       notDue = λ i l. absurd (not-suc-le-zero l);
       runs = record { range = r .range; able = may-run-on r .able };
     }

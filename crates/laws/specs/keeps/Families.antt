@@ -144,7 +144,7 @@ module _ {f : Family} (k : Lawful f) {t : Table} (h : BeforeChoice t) (o : ℕ) 
       (record {
         task = c;
         right = limited-right (s .tasks _ c) (caller-used t a) (f .state) o asked (known (k .among)) (omega (arith, numbers (k .among))) asks limit t (waiting (k .among));
-        notDue = λ n. limited-later t (caller t) (f .state) o limit asked (s .tick) most;
+        notDue = λ n. limited-later t (caller t) (f .state) o limit asked (s .numbers .tick) most;
         waits = one-wait (k .among) may;
         holds = λ m n e. limited-used (s .tasks _ c) (caller-used t a) limit t;
         runs = λ d. absurd (d z);

@@ -6,12 +6,12 @@ use mathlib.Core.Bool.{true}
 use Prim.Native.Nat.{ℕ, _≤_, _<_}
 use native.Mathlib.Omega.{arith}
 use lib.ListN.{length}
-use Rattle.rules.specs.Sizes.{taskCount, mutexCount, mostNested, ticksRound, plain, waitsSemaphore, objectDeleted}
+use Rattle.rules.specs.Sizes.{taskCount, mutexCount, plain, waitsSemaphore, objectDeleted}
 use Rattle.rules.specs.Afresh.{here}
 use Rattle.rules.specs.Table.{Table, taskOf, mutexOf, isAble, written, withBase, withSuspend, withLeft, withOutcome, holderOf}
 use Rattle.rules.specs.Walk.{walkOn}
 use Rattle.rules.specs.Move.{put, rotate, walk, next, ready, ended}
-use Rattle.rules.specs.Sound.{Each, SoundWait, Sound, SoundTask, SoundQueues, WorkedOut, SoundObjects, SoundWithin}
+use Rattle.rules.specs.Sound.{Each, SoundWait, Sound, SoundTask, SoundQueues, WorkedOut, SoundObjects, SoundNumbers, SoundWithin}
 use Rattle.rules.specs.declared.Task.{Task}
 use Rattle.laws.specs.queues.Put.{sized, refilled, put-stored, rotate-stored}
 use Rattle.laws.specs.queues.Fields.{rest, frame, framed, put-rest, rotate-rest, walk-rest, ended-rest}
@@ -39,11 +39,11 @@ BeforeChoice t = Midway taskCount t
 pub sound-before : {t : Table} → Sound t → BeforeChoice t
 sound-before s = record { settled = s .settled; notDue = s .notDue; runs = may-run-on (s .runs) }
 
--- Tick, depth and running task alone.
-pub framed-settled : {t : Table} → SoundWithin t → (tick depth running : ℕ) → tick < ticksRound → depth ≤ mostNested → SoundWithin (framed tick depth running t)
+-- Single numbers alone.
+pub framed-settled : {t : Table} → SoundWithin t → (f : Table) → SoundNumbers f → SoundWithin (framed f t)
 unfolding next holderOf
-framed-settled {t} s tick depth running l m =
-    let u = framed tick depth running t in
+framed-settled {t} s f numbers =
+    let u = framed f t in
     let o = s .objects in
     record {
       queued = same-queued (s .queued) refl refl refl refl refl;
@@ -57,8 +57,17 @@ framed-settled {t} s tick depth running l m =
             waits = λ i l. waits-like {u = u} i (taskOf t i .state) (taskOf t i .object) refl refl refl (o .waits i l);
             holders = o .holders;
           };
-      tick = l;
-      depth = m;
+      numbers = record { tick = numbers .tick; defaultLeast = numbers .defaultLeast; defaultMost = numbers .defaultMost; depth = numbers .depth };
+    }
+
+-- The same single numbers.
+same-numbers : {t u : Table} → frame u ≡ frame t → SoundNumbers t → SoundNumbers u
+same-numbers e n =
+    record {
+      tick = omega (arith, ap (λ (x : Table). x .tick) e, n .tick);
+      defaultLeast = omega (arith, ap (λ (x : Table). x .defaultQuantum) e, n .defaultLeast);
+      defaultMost = omega (arith, ap (λ (x : Table). x .defaultQuantum) e, n .defaultMost);
+      depth = omega (arith, ap (λ (x : Table). x .depth) e, n .depth);
     }
 
 -- ---- one task
@@ -91,8 +100,7 @@ becomes-keeps {n} {t} {u} {i} {k} h m b queued worked objects =
             worked = worked;
             tasks = λ j l. work-right (becomes-each (λ x. SoundTask) b j (work-right (m .right) 0 (omega arith)) (work-right (s .tasks j l) 0 (omega arith))) (taskOf u j .work) (worked j l .least j l here);
             objects = objects;
-            tick = omega (arith, ap (λ (x : Table). x .tick) (b .frames), s .tick);
-            depth = omega (arith, ap (λ (x : Table). x .depth) (b .frames), s .depth);
+            numbers = same-numbers (b .frames) (s .numbers);
           };
       notDue = λ j l. rw (ap (λ (x : Table). x .tick) (b .frames)) (becomes-each (λ x y. x < n → NotYet (t .tick) y) b j (m .notDue) (h .notDue j) l);
       runs = becomes-runs b (m .runs) (h .runs);

@@ -9,8 +9,9 @@ use Rattle.rules.specs.Sizes.{lastPriority, mostNested, mostQuantum, ticksRound
 use Rattle.rules.specs.Table.{Table, Asked, nothingAsked, noTask, withBase, withWork, withSuspend, withLeft, withState, withMark, withOutcome, withAsked}
 use Rattle.rules.specs.Decides.{equals}
 use Rattle.rules.specs.Move.{ready}
-use Rattle.rules.specs.Sound.{marksIn, asksIn, TaskInRange, SoundTask}
+use Rattle.rules.specs.Sound.{marksIn, asksIn, TaskInRange, SoundTask, SoundNumbers}
 use Rattle.rules.specs.Family.{lastState, ofState, objectsIn}
+use Rattle.rules.specs.Quantum.{quantumOf}
 use Rattle.rules.specs.Task.{created}
 use Rattle.rules.specs.Time.{markIn}
 use Rattle.rules.specs.Object.{limited}
@@ -34,16 +35,27 @@ asks-nothing {state} d =
 
 -- A task in use has no fields that must be zero.
 in-use : {k : Task} → k .used ≡ 1 → TaskInRange k → (k .state ≡ plain → k .marked ≡ 0) → (k .state ≡ delayed → k .marked ≡ 1) → k .left ≤ k .quantum → (k .state ≡ waitsFlags → 1 ≤ k .mask)
+    → 1 ≤ k .quantum
     → SoundTask k
-in-use {k} u r p d l m = record { inRange = r; freeZero = λ z. absurd (omega arith); plainMark = p; delayMark = d; left = l; asks = m }
+in-use {k} u r p d l m q = record { inRange = r; freeZero = λ z. absurd (omega arith); plainMark = p; delayMark = d; left = l; asks = m; turn = λ e. q }
 
 pub free-right : SoundTask noTask
 unfolding ofState marksIn asksIn
-free-right = record { inRange = omega arith; freeZero = λ z. refl; plainMark = λ e. refl; delayMark = λ e. absurd (omega arith); left = omega arith; asks = λ e. absurd (omega arith) }
+free-right = record { inRange = omega arith; freeZero = λ z. refl; plainMark = λ e. refl; delayMark = λ e. absurd (omega arith); left = omega arith; asks = λ e. absurd (omega arith); turn = λ e. absurd (omega arith) }
 
-pub created-right : {base quantum : ℕ} → base ≤ lastPriority → quantum ≤ mostQuantum → SoundTask (created base quantum)
+-- The quantum of a task that is created, with 0 or with a number that is given.
+module _ {t : Table} (s : SoundNumbers t) (quantum : ℕ) where
+  pub own-least : 1 ≤ quantumOf quantum t
+  unfolding quantumOf
+  own-least = pick (λ n. 1 ≤ n) equals (λ e. s .defaultLeast) (λ (d : quantum ≢ 0). omega arith)
+
+  pub own-most : quantum ≤ mostQuantum → quantumOf quantum t ≤ mostQuantum
+  unfolding quantumOf
+  own-most l = whichever (λ n. n ≤ mostQuantum) (eqb quantum 0) (s .defaultMost) l
+
+pub created-right : {base quantum : ℕ} → base ≤ lastPriority → 1 ≤ quantum → quantum ≤ mostQuantum → SoundTask (created base quantum)
 unfolding ofState marksIn asksIn
-created-right b q = in-use refl (omega arith) (λ e. refl) (λ e. absurd (omega arith)) (omega arith) (λ e. absurd (omega arith))
+created-right b l q = in-use refl (omega arith) (λ e. refl) (λ e. absurd (omega arith)) (omega arith) (λ e. absurd (omega arith)) l
 
 module _ {k : Task} (r : SoundTask k) where
   -- A working priority no greater than the base.
@@ -56,6 +68,7 @@ module _ {k : Task} (r : SoundTask k) where
         delayMark = r .delayMark;
         left = r .left;
         asks = r .asks;
+        turn = r .turn;
       }
 
   -- No more left than the quantum.
@@ -68,31 +81,32 @@ module _ {k : Task} (r : SoundTask k) where
         delayMark = r .delayMark;
         left = l;
         asks = r .asks;
+        turn = r .turn;
       }
 
   module _ (u : k .used ≡ 1) where
     pub base-right : (base : ℕ) → base ≤ lastPriority → SoundTask (withBase base k)
-    base-right base l = in-use u (omega arith) (r .plainMark) (r .delayMark) (r .left) (r .asks)
+    base-right base l = in-use u (omega arith) (r .plainMark) (r .delayMark) (r .left) (r .asks) (r .turn u)
 
     pub suspend-right : (n : ℕ) → n ≤ mostNested → SoundTask (withSuspend n k)
-    suspend-right n l = in-use u (omega arith) (r .plainMark) (r .delayMark) (r .left) (r .asks)
+    suspend-right n l = in-use u (omega arith) (r .plainMark) (r .delayMark) (r .left) (r .asks) (r .turn u)
 
     pub outcome-right : (outcome : ℕ) → outcome ≤ objectDeleted → SoundTask (withOutcome outcome k)
-    outcome-right outcome l = in-use u (omega arith) (r .plainMark) (r .delayMark) (r .left) (r .asks)
+    outcome-right outcome l = in-use u (omega arith) (r .plainMark) (r .delayMark) (r .left) (r .asks) (r .turn u)
 
     pub ready-right : (outcome : ℕ) → outcome ≤ objectDeleted → SoundTask (ready outcome k)
     unfolding ofState marksIn asksIn
-    ready-right outcome l = in-use u (omega arith) (λ e. refl) (λ e. absurd (omega arith)) (r .left) (λ e. absurd (omega arith))
+    ready-right outcome l = in-use u (omega arith) (λ e. refl) (λ e. absurd (omega arith)) (r .left) (λ e. absurd (omega arith)) (r .turn u)
 
     module _ (state object : ℕ) (a : Asked) (l : state ≤ lastState) (o : object < objectsIn state) (m : MayAsk state a) where
       -- A delay, or a wait with its limit.
       pub marked-right : (n : ℕ) (t : Table) → state ≢ plain → SoundTask (withAsked a (withState state object (withMark 1 (markIn n t) k)))
       unfolding marksIn
-      marked-right n t d = in-use u (omega (arith, m .mask, m .test, m .consume)) (λ e. absurd (d e)) (λ e. refl) (r .left) (m .some)
+      marked-right n t d = in-use u (omega (arith, m .mask, m .test, m .consume)) (λ e. absurd (d e)) (λ e. refl) (r .left) (m .some) (r .turn u)
 
       unmarked-right : delayed < state → SoundTask (withAsked a (withState state object (withMark 0 0 k)))
       unfolding marksIn
-      unmarked-right d = in-use u (omega (arith, m .mask, m .test, m .consume)) (λ e. refl) (λ e. absurd (omega arith)) (r .left) (m .some)
+      unmarked-right d = in-use u (omega (arith, m .mask, m .test, m .consume)) (λ e. refl) (λ e. absurd (omega arith)) (r .left) (m .some) (r .turn u)
 
       pub limited-right : (limit : ℕ) (t : Table) → delayed < state → SoundTask (withAsked a (withState state object (limited limit t k)))
       limited-right limit t d = whichever (λ x. SoundTask (withAsked a (withState state object x))) (eqb limit 0) (unmarked-right d) (marked-right limit t (λ e. omega arith))

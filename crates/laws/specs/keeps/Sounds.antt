@@ -2,13 +2,14 @@
 use mathlib.Core.Path.{_≡_, refl}
 use mathlib.Core.Bool.{Bool}
 use Prim.Native.Nat.{_<_}
+use native.Mathlib.Omega.{arith}
 use Rattle.queue.specs.Order.{count, mayPrecede, fits, isOrdered}
 use Rattle.rules.specs.Sizes.{notSound}
 use Rattle.rules.specs.Chain.{leads, smallest, fresh}
-use Rattle.rules.specs.Table.{Table, freshTable, ableQueue, firstIn, isAble, works, holderOf}
+use Rattle.rules.specs.Table.{Table, freshTable, ableQueue, firstIn, isAble, works, withRunning, holderOf}
 use Rattle.rules.specs.Decides.{itself}
 use Rattle.rules.specs.Move.{next, freshIn, chosen}
-use Rattle.rules.specs.Sound.{Sound, each, isShaped, marksIn, isTaskInRange, isNoTask, isNoSemaphore, isNoMutex, isNoGroup, asksIn, isSoundTask, isSoundSemaphore, isSoundMutex, isSoundGroup, mayWait, isSoundWait, eachOf, isSoundObjects, isSoundQueues, isWorkedOut, isSoundWithin, isSoundRuns, isSound, SoundWithin, NotDue}
+use Rattle.rules.specs.Sound.{Sound, each, isShaped, marksIn, isTaskInRange, isNoTask, isNoSemaphore, isNoMutex, isNoGroup, asksIn, isSoundTask, isSoundSemaphore, isSoundMutex, isSoundGroup, mayWait, isSoundWait, eachOf, isSoundObjects, isSoundQueues, isWorkedOut, isSoundNumbers, isSoundWithin, isSoundRuns, isSound, SoundWithin, NotDue}
 use Rattle.rules.specs.Family.{ofState, placeOf}
 use Rattle.rules.specs.Tested.{sound-tested, tested-sound}
 use Rattle.rules.specs.Step.{answer, effect, Bounded, serve, step}
@@ -26,7 +27,7 @@ pub chosen-sound : {t : Table} → BeforeChoice t → Sound (chosen t)
 chosen-sound {t} u =
     let h = u .settled in
     record {
-      settled = chosen-one SoundWithin t h (framed-settled h (t .tick) (t .depth) (firstIn ableQueue t) (h .tick) (h .depth));
+      settled = chosen-one SoundWithin t h (framed-settled h (withRunning (firstIn ableQueue t) t) (omega (arith, h .numbers)));
       notDue = chosen-one NotDue t (u .notDue) (u .notDue);
       runs = chosen-runs (h .queued) (u .runs);
     }
@@ -57,5 +58,5 @@ serve-small c interrupt t = accepts c interrupt t .small
 
 -- The fresh table is sound.
 pub fresh-sound : Sound freshTable
-unfolding count mayPrecede fits isOrdered leads smallest fresh freshTable isAble placeOf works holderOf next freshIn each isShaped ofState marksIn isTaskInRange isNoTask isNoSemaphore isNoMutex isNoGroup asksIn isSoundTask isSoundSemaphore isSoundMutex isSoundGroup mayWait eachOf isSoundWait isSoundObjects isSoundQueues isWorkedOut isSoundWithin isSoundRuns isSound
+unfolding count mayPrecede fits isOrdered leads smallest fresh freshTable isAble placeOf works holderOf next freshIn each isShaped ofState marksIn isTaskInRange isNoTask isNoSemaphore isNoMutex isNoGroup asksIn isSoundTask isSoundSemaphore isSoundMutex isSoundGroup mayWait eachOf isSoundWait isSoundObjects isSoundQueues isWorkedOut isSoundNumbers isSoundWithin isSoundRuns isSound
 fresh-sound = tested-sound freshTable refl

@@ -17,6 +17,7 @@ use Rattle.rules.specs.Tested.{sound}
 use Rattle.rules.specs.Task.{onTask, createAnswer, deleteAnswer, priorityAnswer, suspendAnswer, resumeAnswer}
 use Rattle.rules.specs.Time.{callerOf, byCaller, yieldAnswer, delayAnswer, delayResumeAnswer}
 use Rattle.rules.specs.Lock.{lockAnswer, unlockAnswer}
+use Rattle.rules.specs.Quantum.{defaultAnswer}
 use Rattle.rules.specs.Family.{Family, semaphores, mutexes, groups}
 use Rattle.rules.specs.Object.{onObject, yesNo, blockAnswer, waitAnswerOn, onOne, objectCreateAnswer, objectDeleteAnswer, objectAbortAnswer}
 use Rattle.rules.specs.Semaphore as semaphore
@@ -26,10 +27,10 @@ use Rattle.rules.specs.Sound.{Each, each, isSound}
 use Rattle.rules.specs.Step.{answerTo, forInterrupts, answer, serve, step}
 use Rattle.rules.specs.declared.Call.{Call}
 use Rattle.laws.specs.queues.Put.{pick}
-use Rattle.laws.specs.numbers.Presumes.{interrupted, not-not, too-great, wrongly, locked, runs-locked, answers, accepts}
+use Rattle.laws.specs.numbers.Presumes.{interrupted, not-not, too-great, no-quantum, wrongly, locked, runs-locked, answers, accepts}
 use Rattle.laws.specs.numbers.Found.{peer, holding}
 use Rattle.laws.specs.numbers.Numbers.{paperOrder, rank, Thing, countOf, numberOf, usedIn, Creates, aTask, aSemaphore, aMutex, aGroup, Deletes, semaphoreDelete, mutexDelete, groupDelete, AsksFor, semaphoreWait, mutexWait, groupWait, Aborts, semaphoreAbort, mutexAbort, groupAbort, On, taskDelete, changePriority, suspend, resume, delayResume, toDelete, toAsk, toAbort, semaphorePost, mutexPost, groupPost, FindsNothing, counted, held, unmet, Gets, Answered}
-use Rattle.laws.specs.numbers.Numbers.{unsound, interrupts, yieldByNone, delayByNone, waitByNone, mutexPostByNone, beyond, unused, used, createBase, changeBase, badForce, badBlock, noTicks, createQuantum, waitNoMask, fifthTest, badConsume, postNoMask, badOn, nonBlocking, lockedYield, lockedDelay, lockedWait, lockedSuspend, lockedDelete, foreign, nestedMutex, nestedLock, nestedSuspend, full, unlocked, notSuspended, notDelayed, noWaiter, noPeer, hasWaiters, holder, waits, accepted}
+use Rattle.laws.specs.numbers.Numbers.{unsound, interrupts, yieldByNone, delayByNone, waitByNone, mutexPostByNone, beyond, unused, used, createBase, changeBase, badForce, badBlock, noTicks, createQuantum, defaultZero, defaultAbove, waitNoMask, fifthTest, badConsume, postNoMask, badOn, nonBlocking, lockedYield, lockedDelay, lockedWait, lockedSuspend, lockedDelete, foreign, nestedMutex, nestedLock, nestedSuspend, full, unlocked, notSuspended, notDelayed, noWaiter, noPeer, hasWaiters, holder, waits, accepted}
 
 -- ---- no condition of an earlier number holds
 
@@ -185,7 +186,7 @@ module _ (t : Table) where
     own {c = c} l s = no-later c (past (sound t) (past (interrupted interrupt c) (sooner noneRunning byInterrupt l refl) s) (sooner noneRunning notSound l refl))
 
     rows : {n : ℕ} {c : Call} → Gets interrupt t n c → NoLater interrupt t n c
-    unfolding rank paperOrder firstAt answerTo createAnswer deleteAnswer priorityAnswer suspendAnswer resumeAnswer yieldAnswer delayAnswer delayResumeAnswer lockAnswer unlockAnswer objectDeleteAnswer objectAbortAnswer semaphore.waitAnswer semaphore.postAnswer mutex.waitAnswer mutex.postAnswer group.waitAnswer group.postAnswer
+    unfolding rank paperOrder firstAt answerTo createAnswer deleteAnswer priorityAnswer suspendAnswer resumeAnswer yieldAnswer delayAnswer delayResumeAnswer lockAnswer unlockAnswer defaultAnswer objectDeleteAnswer objectAbortAnswer semaphore.waitAnswer semaphore.postAnswer mutex.waitAnswer mutex.postAnswer group.waitAnswer group.postAnswer
     rows {c = c} (unsound s) = no-later c (miss _ (sound t) s itself-soon)
     rows {c = c} (interrupts e f) = no-later c (past (sound t) (hit _ (interrupted interrupt c) (e, f)) (within notSound refl))
     rows (yieldByNone z) = own refl (hit _ equals z)
@@ -203,6 +204,8 @@ module _ (t : Table) where
     rows (badBlock {f = f} {o} w h) = own refl (rw (asks-is w t .1) (by-caller refl t (on-one refl f t o (hit _ at-most h))))
     rows (noTicks z) = own refl (by-caller refl t (hit _ equals z))
     rows (createQuantum {i} {base} {quantum} h) = own refl (on-new refl taskCount i (taskOf t i .used) (hit _ (too-great base quantum) (inr h)))
+    rows (defaultZero {n} z) = own refl (hit _ (no-quantum n) (inl z))
+    rows (defaultAbove {n} h) = own refl (hit _ (no-quantum n) (inr h))
     rows (waitNoMask {g} {block} {mask = mask} {test} z) = own refl (by-caller refl t (on-one refl groups t g (yes-no refl block (hit _ (wrongly mask test) (inl z)))))
     rows (fifthTest {g} {block} {mask = mask} {test} h) = own refl (by-caller refl t (on-one refl groups t g (yes-no refl block (hit _ (wrongly mask test) (inr h)))))
     rows (badConsume {g} {block} {mask = mask} {test} h) = own refl (by-caller refl t (on-one refl groups t g (yes-no refl block (rightly refl mask test (hit _ at-most h)))))

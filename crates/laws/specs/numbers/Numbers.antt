@@ -19,7 +19,7 @@ use Rattle.rules.specs.Group.{flagsOf, isMet}
 use Rattle.rules.specs.Sound.{Empty, Sound}
 use Rattle.rules.specs.Step.{forInterrupts}
 use Rattle.rules.specs.declared.Call.{Call}
-use Rattle.rules.specs.declared.Call.the-variants.{TaskCreate, TaskDelete, ChangePriority, Suspend, Resume, Yield, Delay, DelayResume, Lock, Unlock, SemaphoreCreate, SemaphoreDelete, SemaphoreWait, SemaphorePost, SemaphoreAbort, MutexCreate, MutexDelete, MutexWait, MutexPost, MutexAbort, GroupCreate, GroupDelete, GroupWait, GroupPost, GroupAbort}
+use Rattle.rules.specs.declared.Call.the-variants.{TaskCreate, TaskDelete, ChangePriority, Suspend, Resume, Yield, Delay, DelayResume, Lock, Unlock, SetDefaultQuantum, SemaphoreCreate, SemaphoreDelete, SemaphoreWait, SemaphorePost, SemaphoreAbort, MutexCreate, MutexDelete, MutexWait, MutexPost, MutexAbort, GroupCreate, GroupDelete, GroupWait, GroupPost, GroupAbort}
 use Rattle.laws.specs.order.Order.{Peer}
 
 -- ---- the order
@@ -133,6 +133,9 @@ pub data Gets (interrupt : Bool) (t : Table) : ℕ → Call → Type 0 where
   badBlock : {c : Call} {f : Family} {o block : ℕ} → AsksFor c f o block → 1 < block → Gets interrupt t badValue c
   noTicks : {n : ℕ} → n ≡ 0 → Gets interrupt t badValue (Delay n)
   createQuantum : {i base quantum : ℕ} → mostQuantum < quantum → Gets interrupt t badValue (TaskCreate i base quantum)
+  -- "setting the default to 0 gets 4"; from the port a number above 65,535 too
+  defaultZero : {n : ℕ} → n ≡ 0 → Gets interrupt t badValue (SetDefaultQuantum n)
+  defaultAbove : {n : ℕ} → mostQuantum < n → Gets interrupt t badValue (SetDefaultQuantum n)
   -- "a mask of 0 or a fifth test gets 4"; consume, and set or clear, are yes/no bytes
   waitNoMask : {g block limit mask test consume : ℕ} → mask ≡ 0 → Gets interrupt t badValue (GroupWait g block limit mask test consume)
   fifthTest : {g block limit mask test consume : ℕ} → testCount ≤ test → Gets interrupt t badValue (GroupWait g block limit mask test consume)

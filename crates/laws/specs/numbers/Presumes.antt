@@ -13,6 +13,7 @@ use Rattle.rules.specs.Move.{isRunning, hasPeer}
 use Rattle.rules.specs.Task.{isLocked, createAnswer, deleteAnswer, priorityAnswer, suspendAnswer, resumeAnswer}
 use Rattle.rules.specs.Time.{callerOf, yieldAnswer, delayAnswer, delayResumeAnswer}
 use Rattle.rules.specs.Lock.{lockAnswer, unlockAnswer}
+use Rattle.rules.specs.Quantum.{defaultAnswer}
 use Rattle.rules.specs.Family.{Family, waitersOf, semaphores, mutexes, groups}
 use Rattle.rules.specs.Object.{onObject, blockAnswer, waitAnswerOn, objectCreateAnswer, objectDeleteAnswer, objectAbortAnswer}
 use Rattle.rules.specs.Semaphore as semaphore
@@ -21,11 +22,11 @@ use Rattle.rules.specs.Group.{flagsOf, isMet}
 use Rattle.rules.specs.Group as group
 use Rattle.rules.specs.Step.{changes, answerTo, forInterrupts, answer}
 use Rattle.rules.specs.declared.Call.{Call}
-use Rattle.rules.specs.declared.Call.the-variants.{TaskCreate, TaskDelete, ChangePriority, Suspend, Resume, Yield, Delay, DelayResume, Lock, Unlock, Tick, SemaphoreCreate, SemaphoreDelete, SemaphoreWait, SemaphorePost, SemaphoreAbort, MutexCreate, MutexDelete, MutexWait, MutexPost, MutexAbort, GroupCreate, GroupDelete, GroupWait, GroupPost, GroupAbort}
+use Rattle.rules.specs.declared.Call.the-variants.{TaskCreate, TaskDelete, ChangePriority, Suspend, Resume, Yield, Delay, DelayResume, Lock, Unlock, Tick, SetDefaultQuantum, SemaphoreCreate, SemaphoreDelete, SemaphoreWait, SemaphorePost, SemaphoreAbort, MutexCreate, MutexDelete, MutexWait, MutexPost, MutexAbort, GroupCreate, GroupDelete, GroupWait, GroupPost, GroupAbort}
 use Rattle.laws.specs.queues.Put.{pick, pick-not}
 use Rattle.laws.specs.numbers.Found.{peer, holding}
 use Rattle.laws.specs.numbers.Numbers.{Thing, object, countOf, numberOf, usedIn, Creates, aTask, aSemaphore, aMutex, aGroup, Deletes, semaphoreDelete, mutexDelete, groupDelete, AsksFor, semaphoreWait, mutexWait, groupWait, Aborts, semaphoreAbort, mutexAbort, groupAbort, On, taskDelete, changePriority, suspend, resume, delayResume, toDelete, toAsk, toAbort, semaphorePost, mutexPost, groupPost, FindsNothing, counted, held, unmet, Holds, Gets}
-use Rattle.laws.specs.numbers.Numbers.{interrupts, yieldByNone, delayByNone, waitByNone, mutexPostByNone, beyond, unused, used, createBase, changeBase, badForce, badBlock, noTicks, createQuantum, waitNoMask, fifthTest, badConsume, postNoMask, badOn, nonBlocking, lockedYield, lockedDelay, lockedWait, lockedSuspend, lockedDelete, foreign, nestedMutex, nestedLock, nestedSuspend, full, unlocked, notSuspended, notDelayed, noWaiter, noPeer, hasWaiters, holder, waits, accepted}
+use Rattle.laws.specs.numbers.Numbers.{interrupts, yieldByNone, delayByNone, waitByNone, mutexPostByNone, beyond, unused, used, createBase, changeBase, badForce, badBlock, noTicks, createQuantum, defaultZero, defaultAbove, waitNoMask, fifthTest, badConsume, postNoMask, badOn, nonBlocking, lockedYield, lockedDelay, lockedWait, lockedSuspend, lockedDelete, foreign, nestedMutex, nestedLock, nestedSuspend, full, unlocked, notSuspended, notDelayed, noWaiter, noPeer, hasWaiters, holder, waits, accepted}
 
 -- ---- what is accepted
 
@@ -49,6 +50,7 @@ Presumes (DelayResume i) t = (i < taskCount) × (taskOf t i .used ≡ 1) × (tas
 Presumes Lock t = t .depth < mostNested
 Presumes Unlock t = t .depth ≢ 0
 Presumes Tick t = Unit {0}
+Presumes (SetDefaultQuantum n) t = (n ≢ 0) × (n ≤ mostQuantum)
 Presumes (SemaphoreCreate s n) t = MayCreate semaphores s t
 Presumes (SemaphoreDelete s force) t = s < semaphoreCount
 Presumes (SemaphoreWait s block limit) t = (t .running ≢ 0) × (s < semaphoreCount) × (semaphoreOf t s .used ≡ 1) × (semaphoreOf t s .count ≡ 0 → t .depth ≡ 0)
@@ -91,6 +93,10 @@ not-not {b} {B} d = go b d
 -- A base priority or a quantum that is too great.
 pub too-great : (base quantum : ℕ) → Decides (ltb lastPriority base || ltb mostQuantum quantum) ((lastPriority < base) ⊎ (mostQuantum < quantum))
 too-great base quantum = either at-most at-most
+
+-- A default that is no quantum.
+pub no-quantum : (n : ℕ) → Decides (eqb n 0 || ltb mostQuantum n) ((n ≡ 0) ⊎ (mostQuantum < n))
+no-quantum n = either equals at-most
 
 -- "a mask of 0 or a fifth test"
 pub wrongly : (mask test : ℕ) → Decides (eqb mask 0 || leb testCount test) ((mask ≡ 0) ⊎ (testCount ≤ test))
@@ -167,7 +173,7 @@ module _ {interrupt : Bool} {t : Table} {c : Call} where
 module _ (interrupt : Bool) (t : Table) where
   -- Each call made by a task.
   pub answers : (c : Call) → Answers interrupt t c (answerTo c t)
-  unfolding countOf numberOf usedIn answerTo createAnswer deleteAnswer priorityAnswer suspendAnswer resumeAnswer yieldAnswer delayAnswer delayResumeAnswer lockAnswer unlockAnswer semaphore.waitAnswer semaphore.postAnswer mutex.waitAnswer mutex.postAnswer group.waitAnswer group.postAnswer
+  unfolding countOf numberOf usedIn answerTo createAnswer deleteAnswer priorityAnswer suspendAnswer resumeAnswer yieldAnswer delayAnswer delayResumeAnswer lockAnswer unlockAnswer defaultAnswer semaphore.waitAnswer semaphore.postAnswer mutex.waitAnswer mutex.postAnswer group.waitAnswer group.postAnswer
   answers (TaskCreate i base quantum) =
       new-one (aTask {i = i}) λ l u.
       past (too-great base quantum) refl (⊎-elim createBase createQuantum) λ v.
@@ -196,6 +202,10 @@ module _ (interrupt : Bool) (t : Table) where
   answers Lock = past at-most refl nestedLock λ (n : mostNested ≤ t .depth → ⊥). accept (omega arith)
   answers Unlock = past equals refl unlocked λ d. accept d
   answers Tick = accept tt
+  answers (SetDefaultQuantum n) =
+      past (no-quantum n) refl (⊎-elim defaultZero defaultAbove) λ v.
+      let q : mostQuantum < n → ⊥ = λ x. v (inr x) in
+      accept ((λ z. v (inl z)), omega arith)
   answers (SemaphoreCreate s n) = create-answers aSemaphore λ p. p
   answers (SemaphoreDelete s force) = delete-answers semaphoreDelete λ l. l
   answers (SemaphoreWait s block limit) =

@@ -55,10 +55,10 @@ pub record Peer (a : ℕ) (t : Table) : Type 0 where
   pub work : taskOf t number .work ≡ taskOf t a .work
 
 -- The call, made by an interrupt (true) or by a task (false), ends the turn of the running task k: a task's yield does; a tick does
--- where k has a quantum and no more than 1 of it is left. (An interrupt's yield is refused.)
+-- where no more than 1 of its quantum is left. (An interrupt's yield is refused.)
 pub data TurnEnds (k : Task) : Call → Bool → Type 0 where
   yields : TurnEnds k Yield false
-  usedUp : {interrupt : Bool} → k .quantum ≢ 0 → k .left ≤ 1 → TurnEnds k Tick interrupt
+  usedUp : {interrupt : Bool} → k .left ≤ 1 → TurnEnds k Tick interrupt
 
 -- Task a runs in the table t, and the call c makes it go behind a peer.
 pub record Rotated (c : Call) (interrupt : Bool) (t : Table) (a : ℕ) : Type 0 where

@@ -13,6 +13,7 @@ use Rattle.rules.specs.Move.{put, walk, next, ended}
 use Rattle.rules.specs.Task.{create, delete, changePriority, suspend, resume}
 use Rattle.rules.specs.Time.{callerOf, yield, delay, delayResume}
 use Rattle.rules.specs.Lock.{lock, unlock}
+use Rattle.rules.specs.Quantum.{setDefault}
 use Rattle.rules.specs.Family.{Family, waitersOf, semaphores, placeOf}
 use Rattle.rules.specs.Object.{emptied, limited, blocked, waits, taken, abort, objectAbort, objectDelete}
 use Rattle.rules.specs.Semaphore as semaphore
@@ -25,7 +26,7 @@ use Rattle.rules.specs.Step.{changeBy, forInterrupts, answer, effect, changes, 
 use Rattle.rules.specs.Sound.{Sound, SoundQueues}
 use Rattle.rules.specs.declared.Task.{Task}
 use Rattle.rules.specs.declared.Call.{Call}
-use Rattle.rules.specs.declared.Call.the-variants.{TaskCreate, TaskDelete, ChangePriority, Suspend, Resume, Yield, Delay, DelayResume, Lock, Unlock, Tick, SemaphoreCreate, SemaphoreDelete, SemaphoreWait, SemaphorePost, SemaphoreAbort, MutexCreate, MutexDelete, MutexWait, MutexPost, MutexAbort, GroupCreate, GroupDelete, GroupWait, GroupPost, GroupAbort}
+use Rattle.rules.specs.declared.Call.the-variants.{TaskCreate, TaskDelete, ChangePriority, Suspend, Resume, Yield, Delay, DelayResume, Lock, Unlock, Tick, SetDefaultQuantum, SemaphoreCreate, SemaphoreDelete, SemaphoreWait, SemaphorePost, SemaphoreAbort, MutexCreate, MutexDelete, MutexWait, MutexPost, MutexAbort, GroupCreate, GroupDelete, GroupWait, GroupPost, GroupAbort}
 use Rattle.laws.specs.queues.Rows.{waiting, first-queue, last-queue}
 use Rattle.laws.specs.queues.Stands.{free-place, not-able, first-there, able-stands}
 use Rattle.laws.specs.queues.Put.{whichever, pick, pick-not, task-put-same, place-same, sized}
@@ -214,7 +215,7 @@ module _ {q a b : ℕ} (m : q < queueCount) (two : Two a b) where
     -- Of a call that is accepted; an interrupt's yield is not.
     change-kept : (c : Call) (interrupt : Bool) → changes (answer c interrupt t) ≡ true → Presumes c t
         → (Rotated c interrupt t a → ⊥) → (Rotated c interrupt t b → ⊥) → KeepsOrder q a b t (changeBy c t)
-    unfolding answer toldIn spelled forInterrupts changeBy create suspend resume delay delayResume lock unlock semaphore.create mutex.create group.create
+    unfolding answer toldIn spelled forInterrupts changeBy create suspend resume delay delayResume lock unlock setDefault semaphore.create mutex.create group.create
     change-kept (TaskCreate i base quantum) by e h x y = one-kept i _ queued
     change-kept (TaskDelete i) by e h x y = delete-kept i
     change-kept (ChangePriority i base) by e h x y = priority-kept i base
@@ -227,6 +228,7 @@ module _ {q a b : ℕ} (m : q < queueCount) (two : Two a b) where
     change-kept Lock by e h x y = unmoved
     change-kept Unlock by e h x y = unmoved
     change-kept Tick by e h x y = moved-kept (ticked-rises by two s x y)
+    change-kept (SetDefaultQuantum n) by e h x y = unmoved
     change-kept (SemaphoreCreate n v) by e h x y = unmoved
     change-kept (SemaphoreDelete n force) by e l x y = objectDelete-kept semaphores-lawful n l
     change-kept (SemaphoreWait n block limit) by e h x y = semaphoreWait-kept n limit (h .0)

@@ -10,7 +10,7 @@ use borrow.Author.Tests.{ne-eqb}
 use Rattle.rules.specs.Sizes.{taskCount, groupCount, ticksRound, waitsSemaphore, given, objectDeleted}
 use Rattle.rules.specs.Chain.{Leads, Ends, fresh}
 use Rattle.rules.specs.Afresh.{more, fresh-is}
-use Rattle.rules.specs.Decides.{equals, either, both}
+use Rattle.rules.specs.Decides.{equals, both}
 use Rattle.rules.specs.Table.{Table, taskOf, queueCount, ableQueue, groupQueue, slotIn, firstIn, isAble, askedBy, withLeft, withTick, holderOf}
 use Rattle.rules.specs.Family.{placeOf}
 use Rattle.rules.specs.Move.{put, rotate, walk, next, baseOf, away, ready, ended, endedAll}
@@ -173,9 +173,9 @@ module _ (interrupt : Bool) {a b : ℕ} (two : Two a b) where
   turned-rises : {t : Table} → SoundQueues t → callerOf t < taskCount → (Rotated Tick interrupt t a → ⊥) → (Rotated Tick interrupt t b → ⊥) → Moved Rises a b t (turned t)
   unfolding turned
   turned-rises {t} f l x y =
-      pick (Moved Rises a b t) (either equals equals)
+      pick (Moved Rises a b t) equals
       (λ e. same-moved two rises-oneway t t refl refl)
-      (λ runs. pick (Moved Rises a b t) (both equals (both equals (peer i u))) (λ e. behind (rotated (λ z. runs (inl z)) (λ z. runs (inr z)) (e .0) (e .1 .0) (e .1 .1))) (λ e. less))
+      (λ runs. pick (Moved Rises a b t) (both equals (both equals (peer i u))) (λ e. behind (rotated runs (e .0) (e .1 .0) (e .1 .1))) (λ e. less))
     where
       i : ℕ
       i = callerOf t
@@ -197,11 +197,11 @@ module _ (interrupt : Bool) {a b : ℕ} (two : Two a b) where
           let same = part-put (λ k. k .work) i k t refl in
           record { number = p .number; range = p .range; other = p .other; able = sym (still (p .number)) ∙ p .able; work = sym (same (p .number)) ∙ p .work ∙ same i }
 
-      rotated : (t .running ≢ 0) → taskOf t i .quantum ≢ 0 → taskOf u i .left ≡ 0 → u .depth ≡ 0 → Peer i u → Rotated Tick interrupt t i
-      rotated r n z d p =
+      rotated : (t .running ≢ 0) → taskOf u i .left ≡ 0 → u .depth ≡ 0 → Peer i u → Rotated Tick interrupt t i
+      rotated r z d p =
           record {
             runs = omega arith;
-            ends = usedUp n (omega (arith, ap (λ k. k .left) (task-put-same i k t l (f .shaped .tasks))));
+            ends = usedUp (omega (arith, ap (λ k. k .left) (task-put-same i k t l (f .shaped .tasks))));
             unlocked = sym (ap (λ (x : Table). x .depth) (put-rest i k t)) ∙ d;
             peer = earlier p;
           }

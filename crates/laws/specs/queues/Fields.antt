@@ -3,7 +3,7 @@ use mathlib.Core.Path.{_≡_, refl, sym, ap, _∙_}
 use mathlib.Core.List.{[]}
 use Prim.Native.Nat.{ℕ}
 use lib.ListN.{length, length-set}
-use Rattle.rules.specs.Table.{Table, taskOf, isAble, withWork, withTasks, withQueues, withTick, withDepth, withRunning}
+use Rattle.rules.specs.Table.{Table, taskOf, isAble, withWork, withTasks, withQueues, withTick, withDefaultQuantum, withDepth, withRunning}
 use Rattle.rules.specs.Family.{ofState, placeOf}
 use Rattle.rules.specs.Move.{put, rotate, walk, ended}
 use Rattle.rules.specs.declared.Task.{Task}
@@ -16,11 +16,11 @@ abbrev pub rest : Table → Table
 rest t = withTasks [] (withQueues [] t)
 
 abbrev pub frame : Table → Table
-frame t = record { tasks = []; semaphores = []; mutexes = []; groups = []; queues = []; tick = t .tick; depth = t .depth; running = t .running }
+frame t = record { tasks = []; semaphores = []; mutexes = []; groups = []; queues = []; tick = t .tick; defaultQuantum = t .defaultQuantum; depth = t .depth; running = t .running }
 
--- The same lists, in another frame: `withTick`, `withDepth` and `withRunning` are such.
-abbrev pub framed : (tick depth running : ℕ) → Table → Table
-framed tick depth running t = withTick tick (withDepth depth (withRunning running t))
+-- The lists of t in the frame of f: where a call changes single numbers alone, it makes f of t, and `framed f t` is f.
+abbrev pub framed : (f t : Table) → Table
+framed f t = withTick (f .tick) (withDefaultQuantum (f .defaultQuantum) (withDepth (f .depth) (withRunning (f .running) t)))
 
 -- A task without its working priority.
 abbrev pub bare : Task → Task

@@ -19,9 +19,9 @@ are-queues-right-requires c κs =
 
 returns-2 : tie.Need-returns-2
 returns-2 c =
-    let k = c .before .before .before .before .before in
+    let k = c .before .before .before .before .before .before in
     let t = view (k .before .before .args .s .now) in
-    let e : areTasksSound t ≡ true = sym (k .are-tasks-right .ensures) ∙ not-false (k .are-tasks-right .result) (c .before .before .before .before .if1 .left) in
+    let e : areTasksSound t ≡ true = sym (k .are-tasks-right .ensures) ∙ not-false (k .are-tasks-right .result) (c .before .before .before .before .before .if1 .left) in
     cc (sound-rest t e)
 
 pub is-sound-spec : {M : Type 1} → statement M
@@ -32,6 +32,7 @@ is-sound-spec =
     returns
     (λ c κs. search needs)
     are-queues-right-requires
+    (λ c κs. search needs)
     (λ c κs. search needs)
     (λ c κs. search needs)
     returns-2)

@@ -19,7 +19,7 @@ use Rattle.table.specs.kinds.Task as task
 use Rattle.table.specs.kinds.Semaphore as semaphore
 use Rattle.table.specs.kinds.Mutex as mutex
 use Rattle.table.specs.kinds.Group as group
-use Rattle.table.specs.Image.{queueFirst, tickColumn, depthColumn, runningColumn, layout, Image, view}
+use Rattle.table.specs.Image.{queueFirst, tickColumn, defaultColumn, depthColumn, runningColumn, layout, Image, view}
 
 -- Its columns have one count.
 pub even : alike mutex.kind layout ≡ true
@@ -43,6 +43,7 @@ module _ (l m : List ℕ) (i j : ℕ) (vs : List ℕ) (h : Image l) where
         groups = row-kept mutex.kind layout even group.kind (inl (omega arith)) vs j i l (omega arith) q f x;
         queues = row-run mutex.kind layout even queueFirst queueCount (λ n p. inr (omega arith)) vs j i l (omega arith) q f x;
         tick = row-entry mutex.kind layout even vs j i l (omega arith) q f tickColumn 0 (inr (omega arith)) x;
+        defaultQuantum = row-entry mutex.kind layout even vs j i l (omega arith) q f defaultColumn 0 (inr (omega arith)) x;
         depth = row-entry mutex.kind layout even vs j i l (omega arith) q f depthColumn 0 (inr (omega arith)) x;
         running = row-entry mutex.kind layout even vs j i l (omega arith) q f runningColumn 0 (inr (omega arith)) x;
       }

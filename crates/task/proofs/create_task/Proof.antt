@@ -25,7 +25,7 @@ returns-4 c = refused (rw (lt-leb _ _ (c .before .before .before .before .before
 returns-5 : tie.Need-returns-5
 unfolding createAnswer create
 returns-5 c =
-    let b = c .before .before .before .before .before .before .before .before .before in
+    let b = c .before .before .before .before .before .before .before .before .before .before .before in
     served (rw (lt-leb _ _ (b .before .before .before .before .before .if1 .left), ← b .before .before .before .get-used .ensures, ne-eqb _ _ (b .before .before .if2 .left), le-ltb _ _ (b .before .if3 .left), le-ltb _ _ (b .if4 .left))) refl (cc)
 
 pub create-task-spec : {M : Type 1} → statement M
@@ -41,6 +41,7 @@ create-task-spec =
     (λ c. search needs)
     returns-4
     (λ c. search needs)
+    (λ c κs. search needs)
     (λ c. search needs)
     (λ c κs. search needs)
     (λ c κs. search needs)

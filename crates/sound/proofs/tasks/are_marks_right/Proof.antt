@@ -1,8 +1,7 @@
 use mathlib.Core.Path.{_≡_}
-use Prim.Native.Nat.{_-_, _≤_, _<_}
+use Prim.Native.Nat.{_-_, _≤_}
 use native.Mathlib.Omega.{arith}
-use borrow.Author.Tests.{lt-ltb}
-use Rattle.rules.specs.Sizes.{taskCount, ticksRound}
+use Rattle.rules.specs.Sizes.{taskCount}
 use Rattle.rules.specs.Table.{taskOf}
 use Rattle.rules.specs.Sound.{each}
 use Rattle.table.specs.Image.{view}
@@ -30,10 +29,8 @@ loop-again c =
 
 returns : tie.Need-returns Inv-loop μ-loop
 returns c =
-    let t = view (c .before .before .before .before .args .s .now) in
-    let h : t .tick < ticksRound = omega (arith, c .before .before .get-tick .ensures) in
     let e : c .before .loop .i ≡ taskCount = omega arith in
-    rw (lt-ltb (t .tick) ticksRound h) (rw e at (c .before .loop .inv .1))
+    rw e at (c .before .loop .inv .1)
 
 pub are-marks-right-spec : {M : Type 1} → statement M
 are-marks-right-spec =

@@ -32,7 +32,15 @@ unfolding keptIn
 returns-6 c = rw (c .before .match .keys5, lt-ltb _ 1 (c .before .before .before .before .if1 .left)) (cc (or-is (eqb (c .before .before .before .get-depth .result) 0) (c .may-run .result)))
 
 returns-7 : tie.Need-returns-7
-returns-7 c = let a = c .before .before .before .before .before .args in sym (kept-lacking (a .rule) (a .i) _ (search (needs, end, with) depth 60))
+unfolding keptIn
+returns-7 c = rw (c .before .match .keys6, lt-ltb _ 1 (c .before .before .before .before .if1 .left)) (cc)
+
+returns-8 : tie.Need-returns-8
+unfolding keptIn
+returns-8 c = rw (c .before .match .keys7, lt-ltb _ 1 (c .before .before .before .before .if1 .left)) (cc)
+
+returns-9 : tie.Need-returns-9
+returns-9 c = let a = c .before .before .before .before .before .args in sym (kept-lacking (a .rule) (a .i) _ (search (needs, end, with) depth 60))
 
 pub is-right-spec : {M : Type 1} → statement M
 is-right-spec =
@@ -45,9 +53,14 @@ is-right-spec =
     (λ c. search needs)
     (λ c κs. search needs)
     (λ c κs. search needs)
+    (λ c κs. search needs)
+    (λ c κs. search needs)
+    (λ c. search needs)
     returns-2
     returns-3
     returns-4
     returns-5
     returns-6
-    returns-7)
+    returns-7
+    returns-8
+    returns-9)

@@ -32,7 +32,11 @@ unfolding keptIn
 returns-6 c = rw (c .before .before .match .keys5, lt-ltb _ 32 (c .before .before .before .if1 .left)) (cc (unless-is (eqb (c .before .get-state3 .result) 4) (leb 1 (c .get-mask .result))))
 
 returns-7 : tie.Need-returns-7
-returns-7 c = let a = c .before .before .before .args in sym (kept-lacking (a .rule) (a .i) _ (search (needs, end, with) depth 60))
+unfolding keptIn
+returns-7 c = rw (c .before .before .match .keys6, lt-ltb _ 32 (c .before .before .before .if1 .left)) (cc (unless-is (eqb (c .before .get-used .result) 1) (leb 1 (c .get-quantum2 .result))))
+
+returns-8 : tie.Need-returns-8
+returns-8 c = let a = c .before .before .before .args in sym (kept-lacking (a .rule) (a .i) _ (search (needs, end, with) depth 60))
 
 pub is-right-spec : {M : Type 1} → statement M
 is-right-spec =
@@ -48,9 +52,12 @@ is-right-spec =
     (λ c κs. search needs)
     (λ c κs. search needs)
     (λ c κs. search needs)
+    (λ c κs. search needs)
+    (λ c κs. search needs)
     returns-2
     returns-3
     returns-4
     returns-5
     returns-6
-    returns-7)
+    returns-7
+    returns-8)
