@@ -10,3 +10,5 @@ pub mod Keeps
 pub mod Stable
 pub mod Checked
 pub mod Changes
+pub mod Slide
+pub mod Packed

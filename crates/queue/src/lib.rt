@@ -4,9 +4,13 @@
 ghost use mathlib.Core.Path.{_≡_};
 ghost use lib.ListN.{length, getD, drop};
 ghost use Prim.Native.Nat.{_+_, _<_};
-ghost use Rattle.queue.specs.Slots.{firstAt, same, later, placeBehind, opened, fallen, closed, behind, without};
+ghost use Rattle.queue.specs.Slots.{firstAt, same, later, placeBehind, opened, fallen, closed, behind, without, moved};
+ghost use Rattle.queue.specs.Slide.{packedAt};
 ghost use Rattle.queue.specs.Order.{mayPrecede, fits, isOrdered};
 ghost use Rattle.queue.specs.Answers.{headOf, foundIn, known, insertAnswer, removeAnswer, moveAnswer, inserted, movedIn};
+
+mod shifts;
+pub mod slides;
 
 // Who is first.
 pub enum Head {
@@ -102,9 +106,13 @@ pub fn place_behind(ids: &[u8], keys: &[u8], key: u8) -> usize
     i
 }
 
+// So many slots are shifted one by one: a short queue is done by then, and nine at a time gain on a longer one. At the front one look tells
+// the one from the other.
+const FEW: usize = 5;
+
 // v comes to the slot `at`, and those from there on move one further, up to the first free slot. Answers what falls out at
 // the end: 0 where a slot was free, and v itself where `at` is past the end.
-pub fn open(ids: &mut [u8], at: usize, v: u8) -> u8
+fn open_up(ids: &mut [u8], at: usize, v: u8) -> u8
     ensures { λ r. ⌜ (r ≡ fallen at v (now (ids .entry))) × (now (ids .exit) ≡ opened at v (now (ids .entry))) ⌝ }
 {
     let mut carry = v;
@@ -117,25 +125,60 @@ pub fn open(ids: &mut [u8], at: usize, v: u8) -> u8
         }
         carry = y;
         j += 1;
+        if FEW <= j - at {
+            return shifts::open_nines(ids, j, carry);
+        }
     }
     carry
 }
 
-// The slot `at` goes, and those behind it move one nearer, up to the first free slot. Answers what stood there.
-pub fn close(ids: &mut [u8], at: usize) -> u8
-    ensures { λ r. ⌜ (r ≡ getD (now (ids .entry)) at 0) × (now (ids .exit) ≡ closed at (now (ids .entry))) ⌝ }
+// The same.
+pub fn open(ids: &mut [u8], at: usize, v: u8) -> u8
+    ensures { λ r. ⌜ (r ≡ fallen at v (now (ids .entry))) × (now (ids .exit) ≡ opened at v (now (ids .entry))) ⌝ }
 {
-    let gone = slot_or_free(ids, at);
+    if (at == 0) & (slot_or_free(ids, FEW - 1) != 0) {
+        return shifts::open_nines(ids, at, v);
+    }
+    open_up(ids, at, v)
+}
+
+// The slot `at` goes, and those behind it move one nearer, up to the first free slot.
+fn close_up(ids: &mut [u8], at: usize)
+    ensures { λ _. ⌜ now (ids .exit) ≡ closed at (now (ids .entry)) ⌝ }
+{
     let mut j = at;
     while j < ids.len() {
         let y = slot_or_free(ids, j + 1);
         ids[j] = y;
         if y == 0 {
-            return gone;
+            return;
         }
         j += 1;
+        if FEW <= j - at {
+            shifts::close_nines(ids, j);
+            return;
+        }
     }
+}
+
+// The same. Answers what stood there.
+pub fn close(ids: &mut [u8], at: usize) -> u8
+    ensures { λ r. ⌜ (r ≡ getD (now (ids .entry)) at 0) × (now (ids .exit) ≡ closed at (now (ids .entry))) ⌝ }
+{
+    let gone = slot_or_free(ids, at);
+    close_up(ids, at);
     gone
+}
+
+// The front slot goes, the most frequent change of all.
+fn close_front(ids: &mut [u8])
+    ensures { λ _. ⌜ now (ids .exit) ≡ closed 0 (now (ids .entry)) ⌝ }
+{
+    if slot_or_free(ids, FEW) == 0 {
+        close_up(ids, 0);
+        return;
+    }
+    shifts::close_nines(ids, 0);
 }
 
 // Whether an id has a key, and a slot can hold it: 255 it cannot.
@@ -177,12 +220,27 @@ pub fn insert(ids: &mut [u8], keys: &[u8], id: u8) -> Answer
 pub fn remove(ids: &mut [u8], id: u8) -> Answer
     ensures { λ r. ⌜ (r ≡ removeAnswer id (now (ids .entry))) × (now (ids .exit) ≡ without id (now (ids .entry))) ⌝ }
 {
-    let at = slot_of(ids, id as usize + 1);
+    let v = id as usize + 1;
+    if slot_or_free(ids, 0) as usize == v {
+        close_front(ids);
+        return Answer::Done;
+    }
+    let at = slot_of(ids, v);
     if ids.len() <= at {
         return Answer::NotThere;
     }
-    close(ids, at);
+    close_up(ids, at);
     Answer::Done
+}
+
+// The slot `at`, where the id stands with no free slot before, goes, and the id comes behind its equals: only the slots between move.
+fn move_from(ids: &mut [u8], keys: &[u8], at: usize, id: u8)
+    requires { ⌜ (id < 255) × (at < length (now ids)) × (at ≡ packedAt (id + 1) (now ids)) ⌝ }
+    ensures { λ _. ⌜ now (ids .exit) ≡ moved (now (keys .entry)) id (now (ids .entry)) ⌝ }
+{
+    let key = slot_or_free(keys, id as usize);
+    let to = slides::place_without(ids, keys, key, at);
+    slides::slide(ids, at, to, id + 1);
 }
 
 // The id, whose key has changed, leaves and goes behind its equals at the new level. Refused: an id without a key, or 255; one
@@ -193,6 +251,12 @@ pub fn move_behind(ids: &mut [u8], keys: &[u8], id: u8) -> Answer
     if !is_known(keys, id) {
         return Answer::BeyondKeys;
     }
+    let near = slides::find_packed(ids, id);
+    if near < ids.len() {
+        move_from(ids, keys, near, id);
+        return Answer::Done;
+    }
+    // No packed queue that has the id comes here: with a free slot before it one slide would leave something else.
     let at = slot_of(ids, id as usize + 1);
     if ids.len() <= at {
         return Answer::NotThere;

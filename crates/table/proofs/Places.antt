@@ -7,7 +7,8 @@ use lib.ListN.{length, getD, take, drop, length-take, length-drop, List·getD-ma
 use lib.Seq.{ext-getD, getD-take, getD-drop, getD-set-same, set-set, map-set-same}
 use borrow.Author.Tests.{lt-ltb, eq-eqb, ne-eqb}
 use borrow.Rule.Slice.PartMut.{putMid}
-use Rattle.queue.specs.Slots.{placeBehind, opened, behind, without}
+use Rattle.queue.specs.Slots.{placeBehind, opened, behind, without, moved}
+use Rattle.queue.specs.Slide.{lifted, slidWithin, packedAt, slid-within, moved-packed}
 use Rattle.queue.specs.Lengths.{length-behind, length-without}
 use Rattle.columns.specs.Columns.{offset, place, columns, entry}
 use Rattle.columns.specs.Laws.{entry-read}
@@ -21,6 +22,7 @@ use Rattle.rules.specs.Move.{leave, join, putWork, rotate, chosen}
 use Rattle.laws.specs.queues.Put.{place-same}
 use Rattle.table.specs.kinds.Task.{made, workColumn}
 use Rattle.table.specs.Image.{Image, slotCount, layout, view}
+use Rattle.table.specs.Shape.{view-shaped}
 use Rattle.table.specs.Settled.{put-works}
 use Rattle.table.specs.Queues.{queueAt, view-queue, view-slots, queue-put}
 
@@ -55,6 +57,16 @@ module _ (q i : ℕ) (t : Table) where
   unfolding join
   join-is h = rw (lt-ltb q queueCount h)
 
+-- To leave a queue and to join it again changes that queue alone.
+rejoin-is : (q i : ℕ) (t : Table) → q < queueCount → length (t .queues) ≡ queueCount → join q i (leave q i t) ≡ withQueue q (moved (works t) i (queueOf t q)) t
+unfolding works
+rejoin-is q i t h n =
+    let x : List ℕ = without i (queueOf t q) in
+    ap (join q i) (leave-is q i t h)
+    ∙ join-is q i (withQueue q x t) h
+    ∙ ap (λ (old : List ℕ). withQueue q (behind (works t) i old) (withQueue q x t)) (getD-set-same (t .queues) q x [] (omega arith))
+    ∙ rw set-set
+
 -- A queue that is lent.
 pub queue-lent : (l : List ℕ) (q : ℕ) → q < queueCount → Image l → take (queueAt q + slotCount - queueAt q) (drop (queueAt q) l) ≡ queueOf (view l) q
 queue-lent l q p h = let e : queueAt q + slotCount - queueAt q ≡ slotCount = omega arith in rw e (sym (view-queue l h q p))
@@ -78,6 +90,18 @@ module _ (l : List ℕ) (q i : ℕ) (ys : List ℕ) (p : q < queueCount) (h : Im
       let y : ys ≡ behind (works (view l)) i (queueOf (view l) q) = d ∙ ap₂ (λ (a : ℕ) (z : List ℕ). opened a (i + 1) z) e lent in
       let n : length ys ≡ slotCount = ap length y ∙ length-behind (works (view l)) i (queueOf (view l) q) ∙ view-slots l h q p in
       queue-put l q a (a + slotCount) h p refl refl ys n ∙ ap (λ (z : List ℕ). withQueue q z (view l)) y ∙ sym (join-is q i (view l) p)
+
+  -- A slide between two places, where no slot before the first is free, is what leaving and joining leave.
+  pub rejoined-queue : (at to : ℕ) → at ≡ packedAt (i + 1) (queueOf (view l) q) → at < slotCount
+      → to ≡ placeBehind (works (view l)) (getD (works (view l)) i 0) (lifted at (queueOf (view l) q))
+      → ys ≡ slidWithin at to (i + 1) (take (a + slotCount - a) (drop a l)) → view (putMid a (a + slotCount - a) l ys) ≡ join q i (leave q i (view l))
+  rejoined-queue at to e b is d =
+      let x : List ℕ = queueOf (view l) q in
+      let long : length x ≡ slotCount = view-slots l h q p in
+      let m = moved-packed i at x e (omega arith) (works (view l)) to is in
+      let y : ys ≡ moved (works (view l)) i x = d ∙ ap (slidWithin at to (i + 1)) lent ∙ slid-within at to (i + 1) x (omega arith) (m .0) ∙ m .1 in
+      let n : length ys ≡ slotCount = ap length y ∙ length-behind (works (view l)) i (without i x) ∙ length-without i x ∙ long in
+      queue-put l q a (a + slotCount) h p refl refl ys n ∙ ap (λ (z : List ℕ). withQueue q z (view l)) y ∙ sym (rejoin-is q i (view l) p (view-shaped l h .queues))
 
 -- ---- a task that goes behind its equals
 

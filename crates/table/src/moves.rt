@@ -2,9 +2,10 @@
 // another, `leave_queue` or `join_queue` where it is known to stand nowhere now or before; `Settled` says when that is the `put` of the
 // rules. A record is stored whole where a task is created or deleted. `rotate` is the one other move. And who runs.
 ghost use mathlib.Core.Path.{_≡_};
-ghost use Prim.Native.Nat.{_≤_, _<_};
+ghost use Prim.Native.Nat.{_+_, _≤_, _<_};
 ghost use lib.ListN.{getD};
 ghost use Rattle.queue.specs.Slots.{placeBehind};
+ghost use Rattle.queue.specs.Slide.{lifted, packedAt};
 ghost use Rattle.rules.specs.Sizes.{taskCount};
 ghost use Rattle.rules.specs.Table.{queueCount, taskOf, queueOf, works, isAble, firstIn, noTask};
 ghost use Rattle.rules.specs.Family.{placeOf};
@@ -90,6 +91,53 @@ pub fn join_queue(s: &mut [u8], q: usize, i: usize)
     queue::open(&mut s[a..e], at, i as u8 + 1);
 }
 
+// Where task i stands in queue q, with no free slot before it, or SLOTS.
+fn packed_in(s: &[u8], q: usize, i: usize) -> usize
+    requires { ⌜ (i < taskCount) × (q < queueCount) × Image (now s) ⌝ }
+    ensures { λ r. ⌜ r ≡ packedAt (i + 1) (queueOf (view (now (s .entry))) q) ⌝ }
+{
+    let a = layout::QUEUE + layout::SLOTS * q;
+    let e = a + layout::SLOTS;
+    queue::slides::find_packed(&s[a..e], i as u8)
+}
+
+// Where task i goes in queue q, with the slot `at`, its own, not counted.
+fn place_again(s: &[u8], q: usize, i: usize, at: usize) -> usize
+    requires { ⌜ (i < taskCount) × (q < queueCount) × Image (now s) ⌝ }
+    ensures { λ r. ⌜ r ≡ placeBehind (works (view (now (s .entry)))) (getD (works (view (now (s .entry)))) i 0) (lifted at (queueOf (view (now (s .entry))) q)) ⌝ }
+{
+    let a = layout::QUEUE + layout::SLOTS * q;
+    let e = a + layout::SLOTS;
+    let key = tasks::get_work(s, i);
+    queue::slides::place_without(
+        &s[a..e],
+        &s[layout::WORK..layout::WORK + layout::TASKS],
+        key,
+        at,
+    )
+}
+
+// Task i goes behind its equals in queue q, from where it stands there, if there is such a queue. Only the slots between the two places
+// move, unless a free slot stands before the task, as in no queue that is packed.
+fn rejoin_queue(s: &mut [u8], q: usize, i: usize)
+    requires { ⌜ (i < taskCount) × Image (now s) ⌝ }
+    ensures { λ _. ⌜ view (now (s .exit)) ≡ join q i (leave q i (view (now (s .entry)))) ⌝ }
+{
+    if layout::QUEUES <= q {
+        return;
+    }
+    let at = packed_in(s, q, i);
+    if at < layout::SLOTS {
+        let to = place_again(s, q, i, at);
+        let a = layout::QUEUE + layout::SLOTS * q;
+        let e = a + layout::SLOTS;
+        queue::slides::slide(&mut s[a..e], at, to, i as u8 + 1);
+        return;
+    }
+    leave_queue(s, q, i);
+    join_queue(s, q, i);
+}
+
 // Task i, whose fields were stored, but for its working priority, stood in queue q: where its place is another now, it leaves q and
 // goes behind its equals in its own.
 pub fn settle(s: &mut [u8], i: usize, q: usize)
@@ -151,8 +199,7 @@ pub fn rework_task(s: &mut [u8], i: usize, p: u8)
     }
     let q = place_of(s, i);
     tasks::set_work(s, i, p);
-    leave_queue(s, q, i);
-    join_queue(s, q, i);
+    rejoin_queue(s, q, i);
 }
 
 fn rotate_in(s: &mut [u8], i: usize)
@@ -161,8 +208,7 @@ fn rotate_in(s: &mut [u8], i: usize)
 {
     let quantum = tasks::get_quantum(s, i);
     tasks::set_left(s, i, quantum);
-    leave_queue(s, layout::ABLE_QUEUE, i);
-    join_queue(s, layout::ABLE_QUEUE, i);
+    rejoin_queue(s, layout::ABLE_QUEUE, i);
 }
 
 // The able task i goes behind its equals, and has its whole quantum again.

@@ -14,7 +14,7 @@ returns c =
 
 returns-2 : tie.Need-returns-2
 returns-2 c =
-    let b = c .before .before .before .before .before .before .before .before .before .before .before .before .before .before in
+    let b = c .before .before .before .before .before .before .before .before .before .before in
     let a = b .before .before .before .before .args in
     cc (work-moves (a .i) (a .p) (view (a .s .now)) (omega arith) (λ e. b .if1 .left (b .before .get-work .ensures ∙ e)))
 
@@ -25,7 +25,6 @@ rework-task-spec =
     (λ c κs. search needs)
     (λ c. search needs)
     returns
-    (λ c κs. search needs)
     (λ c κs. search needs)
     (λ c κs. search needs)
     (λ c κs. search needs)

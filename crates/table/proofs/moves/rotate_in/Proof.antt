@@ -10,7 +10,7 @@ use Rattle.table.proofs.moves.rotate_in.Tie as tie
 
 returns : tie.Need-returns
 returns c =
-    let a = c .before .before .before .before .before .before .before .before .before .before .before .before .before .before .before .args in
+    let a = c .before .before .before .before .before .before .before .before .before .before .before .args in
     let h : 0 < length (view (a .s .now) .queues) = omega (arith, view-shaped (a .s .now) (omega arith) .queues) in
     cc (rotate-is (a .i) (view (a .s .now)) (omega arith) h)
 
@@ -18,7 +18,6 @@ pub rotate-in-spec : {M : Type 1} → statement M
 rotate-in-spec =
     tie.close
     (tie.spec
-    (λ c κs. search needs)
     (λ c κs. search needs)
     (λ c κs. search needs)
     (λ c κs. search needs)

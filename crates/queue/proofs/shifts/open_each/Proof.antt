@@ -4,8 +4,8 @@ use native.Mathlib.Omega.{arith}
 use lib.ListN.{length, length-set}
 use Rattle.queue.specs.Slots.{opened}
 use Rattle.queue.proofs.Shift.{Opening, open-more, open-free, open-end}
-use Rattle.queue.proofs.open.Statement.{statement}
-use Rattle.queue.proofs.open.Tie as tie
+use Rattle.queue.proofs.shifts.open_each.Statement.{statement}
+use Rattle.queue.proofs.shifts.open_each.Tie as tie
 
 abbrev Inv-loop : tie.InvT-loop
 Inv-loop ids₀ at v carry₀ j₀ ids carry j = (length ids ≡ length ids₀) × Opening at v ids₀ j carry ids
@@ -34,8 +34,8 @@ same-length-2 c = c .before .loop .inv .0
 returns-2 : tie.Need-returns-2 Inv-loop μ-loop
 returns-2 c = open-end (omega arith) (c .before .loop .inv .1)
 
-pub open-spec : {M : Type 1} → statement M
-open-spec =
+pub open-each-spec : {M : Type 1} → statement M
+open-each-spec =
     tie.close
     (tie.spec
     Inv-loop

@@ -1,0 +1,71 @@
+use Prim.Native.Nat.{_-_, _≤_}
+use mathlib.Core.Path.{_≡_, refl, _∙_}
+use native.Mathlib.Omega.{arith}
+use lib.ListN.{length, length-set}
+use Rattle.queue.specs.Slots.{closed}
+use Rattle.queue.proofs.Shift.{Closing, close-more, close-free, close-end, close-rest}
+use borrow.Author.Needs.{needs}
+use Rattle.queue.proofs.close_up.Statement.{statement}
+use Rattle.queue.proofs.close_up.Tie as tie
+
+abbrev Inv-loop : tie.InvT-loop
+Inv-loop ids₀ at j₀ ids j = (length ids ≡ length ids₀) × Closing at ids₀ j ids × (at ≤ j)
+
+abbrev μ-loop : tie.MeasureT-loop
+μ-loop ids₀ at j₀ ids j = length ids₀ - j
+
+loop-holds : tie.Need-loop-holds Inv-loop μ-loop
+unfolding closed
+loop-holds c = (refl, record { slots = refl }, omega arith)
+
+same-length : tie.Need-same-length Inv-loop μ-loop
+same-length c = simp length-set (c .before .before .before .before .loop .inv .0)
+
+returns : tie.Need-returns Inv-loop μ-loop
+returns c =
+    let b = c .before .before .before .before in
+    close-free _ (c .before .slot-or-free .ensures) (omega arith) (c .if1 .taken) (b .loop .inv .1)
+
+same-length-2 : tie.Need-same-length-2 Inv-loop μ-loop
+same-length-2 c = c .before .ids .given ∙ simp length-set (c .before .before .before .before .before .before .before .before .before .loop .inv .0)
+
+returns-2 : tie.Need-returns-2 Inv-loop μ-loop
+returns-2 c =
+    let o = c .before .before in
+    let e = o .before .before .before in
+    let b = e .before .before .before .before in
+    close-rest (o .close-nines .ensures) (close-more _ (e .before .slot-or-free .ensures) (omega arith) (e .if1 .left) (b .loop .inv .1))
+
+loop-again : tie.Need-loop-again Inv-loop μ-loop
+loop-again c =
+    let e = c .before in
+    let b = e .before .before .before .before in
+    (simp length-set (b .loop .inv .0), close-more _ (e .before .slot-or-free .ensures) (omega arith) (e .if1 .left) (b .loop .inv .1), omega arith)
+
+same-length-3 : tie.Need-same-length-3 Inv-loop μ-loop
+same-length-3 c = c .before .loop .inv .0
+
+returns-3 : tie.Need-returns-3 Inv-loop μ-loop
+returns-3 c = close-end (omega arith) (c .before .loop .inv .1)
+
+pub close-up-spec : {M : Type 1} → statement M
+close-up-spec =
+    tie.close
+    (tie.spec
+    Inv-loop
+    μ-loop
+    loop-holds
+    (λ c. omega arith)
+    (λ c κs. search needs)
+    (λ c. omega arith)
+    same-length
+    returns
+    (λ c. omega arith)
+    (λ c. omega arith)
+    (λ c κs. search needs)
+    same-length-2
+    returns-2
+    (λ c. omega arith)
+    loop-again
+    same-length-3
+    returns-3)

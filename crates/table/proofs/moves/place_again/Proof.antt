@@ -1,0 +1,38 @@
+use mathlib.Core.Path.{ap, _∙_}
+use mathlib.Core.List.{List}
+use Prim.Native.Nat.{ℕ}
+use native.Mathlib.Omega.{arith}
+use Rattle.queue.specs.Slots.{placeBehind}
+use Rattle.queue.specs.Slide.{lifted}
+use Rattle.rules.specs.Table.{works, queueOf}
+use Rattle.table.specs.Image.{view}
+use Rattle.table.proofs.Places.{view-works, work-at, queue-lent}
+use borrow.Author.Needs.{needs}
+use Rattle.table.proofs.moves.place_again.Statement.{statement}
+use Rattle.table.proofs.moves.place_again.Tie as tie
+
+returns : tie.Need-returns
+returns c =
+    let a = c .before .before .before .before .before .args in
+    let l : List ℕ = a .s .now in
+    c .place-without .ensures
+    ∙ rw (queue-lent l (a .q) (omega arith) (omega arith), ← view-works l (omega arith), work-at (view l) (a .i))
+    (ap (λ (key : ℕ). placeBehind (works (view l)) key (lifted (a .at) (queueOf (view l) (a .q)))) (c .before .before .before .get-work .ensures))
+
+pub place-again-spec : {M : Type 1} → statement M
+place-again-spec =
+    tie.close
+    (tie.spec
+    (λ c. search needs)
+    (λ c. search needs)
+    (λ c. search needs)
+    (λ c κs. search needs)
+    (λ c. search needs)
+    (λ c. search needs)
+    (λ c. search needs)
+    (λ c. search needs)
+    (λ c. search needs)
+    (λ c. search needs)
+    (λ c. search needs)
+    (λ c κs. search needs)
+    returns)
