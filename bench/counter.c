@@ -1,4 +1,4 @@
-/* counter.c: a plugin for qemu's user emulator that counts the instructions of the program it runs, and prints the count so far where the program
+/* counter.c: a plugin for qemu that counts the instructions of the program it runs, and prints the count so far where the program
  * sets a mark (getppid), and at the end. The few declarations of qemu's plugin interface, version 1, that it takes stand here: no package has its
  * header. */
 #include <stddef.h>

@@ -116,9 +116,12 @@ static void long_image(size_t more)
     uint8_t *image = malloc(NTK_IMAGE_SIZE + more);
     struct ntk_outcome o;
 
-    if (!image)
+    if (!image) {
+        printf("no memory for an image of %lu bytes too many; ", (unsigned long)more);
         return;
-    memset(image, 0, NTK_IMAGE_SIZE);
+    }
+    if (ntk_fresh(image, NTK_IMAGE_SIZE) != NTK_DONE)
+        fail("no fresh table");
     o = ntk_step(NTK_TICK, 0, 0, 0, 0, 0, 0, image, NTK_IMAGE_SIZE + more);
     if (o.answer != NTK_NOT_SOUND || o.runs != 0 || ntk_read(NTK_FIELD_TICK, 0, image, NTK_IMAGE_SIZE + more) != NTK_NO_FIELD)
         fail("too long an image is taken");

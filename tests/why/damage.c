@@ -131,6 +131,15 @@ static void try_several(void)
     }
 }
 
+static const struct column *column_of(uint32_t field)
+{
+    const struct column *column = columns;
+
+    while (column->field != field)
+        column++;
+    return column;
+}
+
 /* The tick counter comes to a due mark. */
 static void try_ticks(void)
 {
@@ -138,8 +147,9 @@ static void try_ticks(void)
 
     for (i = 0; i < NTK_TASKS; i++)
         if (of(NTK_FIELD_TASK_MARKED, i, sound) == 1) {
-            put(&columns[COLUMNS - 3], 0, of(NTK_FIELD_TASK_DUE, i, sound));
+            put(column_of(NTK_FIELD_TICK), 0, of(NTK_FIELD_TASK_DUE, i, sound));
             try_image();
+            expect("a tick at a due mark", ntk_why(image, NTK_IMAGE_SIZE).rule != NTK_RULE_NONE, why_plainly());
             memcpy(image, sound, sizeof sound);
         }
 }
@@ -161,7 +171,7 @@ static void try_all(void)
 {
     memcpy(image, sound, sizeof sound);
     try_image();
-    expect("a table that was played is broken", met[NTK_RULE_NONE] > 0, why_plainly());
+    expect("a table that was played is broken", ntk_why(image, NTK_IMAGE_SIZE).rule == NTK_RULE_NONE, why_plainly());
     try_fields();
     try_several();
     try_ticks();
@@ -178,13 +188,17 @@ static void play(const char *name)
         exit(2);
     }
     reel = reel_of(file);
-    if (ntk_fresh(sound, sizeof sound) != NTK_DONE)
+    if (ntk_fresh(sound, sizeof sound) != NTK_DONE) {
+        printf("why: no fresh table\n");
         wrong++;
+    }
     while (reel_next(&reel, &call) == GOT_CALL) {
         const uint32_t *n = call.numbers;
 
-        if (ntk_step(reel.bytes[0], n[0], n[1], n[2], n[3], n[4], n[5], sound, sizeof sound).answer == NTK_NOT_SOUND)
+        if (ntk_step(reel.bytes[0], n[0], n[1], n[2], n[3], n[4], n[5], sound, sizeof sound).answer == NTK_NOT_SOUND) {
+            printf("why: %s: a call on a table that was played gets 15\n", name);
             wrong++;
+        }
         if (reel.calls % EVERY == 0)
             try_all();
     }

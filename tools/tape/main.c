@@ -55,7 +55,7 @@ static void run_asm(int count, char **words)
     if (tape && !(out = fopen(tape, "wb")))
         fail("%s: %s", tape, strerror(errno));
     if (bytes.count > 0 && fwrite(bytes.data, 1, bytes.count, out) != bytes.count)
-        fail("%s: cannot write: %s", tape ? tape : "standard output", strerror(errno));
+        cannot_write(tape);
     end_writing(out, tape);
     free(bytes.data);
 }

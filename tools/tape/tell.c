@@ -73,7 +73,7 @@ void end_reading(FILE *file, const char *name)
         fclose(file);
 }
 
-static void cannot_write(const char *name)
+void cannot_write(const char *name)
 {
     fail("%s: cannot write: %s", name ? name : "standard output", strerror(errno));
 }

@@ -1,4 +1,4 @@
-/* tell.h: what goes to standard error. */
+/* tell.h: files opened, written and closed, and what goes to standard error. */
 #ifndef TELL_H
 #define TELL_H
 
@@ -18,6 +18,9 @@ const char *name_of(const char *name); /* for messages */
 
 /* Fails where not all was read. */
 void end_reading(FILE *file, const char *name);
+
+/* Says that a file, or standard output where there is no name, cannot be written, and why; ends the program. */
+void cannot_write(const char *name) __attribute__((noreturn));
 
 /* A line, and the end of them. Either fails where it cannot be written. */
 void write_line(FILE *file, const char *text);

@@ -145,6 +145,14 @@ static void write_reason(FILE *out, struct ntk_reason reason, const uint8_t *ima
     write_queue_rule(out, reason, image);
 }
 
+static void write_wrong_length(FILE *out, size_t length)
+{
+    struct line line = {0};
+
+    line_add(&line, "not sound: wrong length (rule 0x%02X): %lu bytes, not %d", NTK_RULE_WRONG_LENGTH, (unsigned long)length, NTK_IMAGE_SIZE);
+    write_line(out, line.text);
+}
+
 void why(FILE *image, const char *name, FILE *out)
 {
     struct bytes bytes = {0};
@@ -160,7 +168,7 @@ void why(FILE *image, const char *name, FILE *out)
     if (reason.rule == NTK_RULE_NONE)
         write_line(out, "sound");
     else if (reason.rule == NTK_RULE_WRONG_LENGTH)
-        fprintf(out, "not sound: wrong length (rule 0x%02X): %lu bytes, not %d\n", NTK_RULE_WRONG_LENGTH, (unsigned long)bytes.count, NTK_IMAGE_SIZE);
+        write_wrong_length(out, bytes.count);
     else
         write_reason(out, reason, bytes.data);
     free(bytes.data);

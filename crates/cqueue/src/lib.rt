@@ -1,4 +1,4 @@
-// The queues for C code: each public function of `queue` under its name, with a number for each answer. A slice is a pointer and then a
+// The queues for C code: each public function of `queue` but those of `slides`, under its name, with a number for each answer. A slice is a pointer and then a
 // length in C. Every input is taken, as `queue` takes it.
 ghost use mathlib.Core.Path.{_≡_};
 ghost use mathlib.Core.Bool.{cond};

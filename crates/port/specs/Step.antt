@@ -71,3 +71,7 @@ pub record Freshened (l : List ℕ) (x : ℕ) (m : List ℕ) : Type 0 where
 -- No two results meet the promise for one input: neither of `ntk_step` nor of `ntk_serve`.
 pub determined : {o : Outcome} {l : List ℕ} {x y v w : ℕ} {m n : List ℕ} → Gives o l x v m → Gives o l y w n → (x ≡ y) × (v ≡ w) × (m ≡ n)
 determined p q = (p .answer ∙ sym (q .answer), p .runs ∙ sym (q .runs), p .bytes ∙ sym (q .bytes))
+
+-- Nor of `ntk_fresh`.
+pub fresh-determined : {l : List ℕ} {x y : ℕ} {m n : List ℕ} → Freshened l x m → Freshened l y n → (x ≡ y) × (m ≡ n)
+fresh-determined p q = (p .answer ∙ sym (q .answer), p .bytes ∙ sym (q .bytes))

@@ -24,7 +24,7 @@ pub why-broken : WhyBroken
 why-broken l h = subst (Explains (view l)) (sym (reason-right l h)) (why-exactly (view l) (view-shaped l h))
 
 pub why-length : WhyLength
-why-length l = ((λ e h. omega (arith, e, why-broken l h .below)), λ n. ap (λ (r : Reason). r .rule) (reason-wrong l n))
+why-length l = ((λ e h. omega (arith, ap (λ (r : Reason). r .rule) e, why-broken l h .below)), reason-wrong l)
 
 -- No reason, and the image of a sound table.
 module _ (l : List ℕ) where
@@ -39,7 +39,7 @@ module _ (l : List ℕ) where
   image-sound b e k = go (ℕ-discrete (length l) imageSize) k
     where
       go : Dec (length l ≡ imageSize) → NoImage l → ⊥
-      go (no h) k = omega (arith, e, why-length l .1 h)
+      go (no h) k = omega (arith, e, ap (λ (r : Reason). r .rule) (reason-wrong l h))
       go (yes h) (inl n) = n h
       go (yes h) (inr n) = n (view l) (why-broken l h .sound .0 e) (sym (view-image l h b))
 

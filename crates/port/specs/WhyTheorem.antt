@@ -1,7 +1,7 @@
 -- What `ntk_why` says of any bytes. Statements alone; `WhyProof` proves each.
 --
 -- For a reader who knows no antt. C code hands bytes to `ntk_why`, which gives two numbers, `reasonOf` of the bytes: a rule's and a record's. `WhyFifteen` says
--- that the rule is 0 exactly where `ntk_step` does not answer 15, `WhyLength` that it is 0xFF exactly where the length is wrong, and `WhyBroken` that else
+-- that the rule is 0 exactly where `ntk_step` does not answer 15, `WhyLength` that they are 0xFF and 0 exactly where the length is wrong, and `WhyBroken` that else
 -- it is right: `Explains` of the crate `why` says how, and its `Broken` lists the rules. That antt accepts `WhyProof` is the proof; nothing is assumed.
 -- `ByteTheorem` says what the symbols mean.
 use mathlib.Core.Path.{_≡_}
@@ -12,6 +12,7 @@ use lib.ListN.{length}
 use Rattle.rules.specs.Sizes.{notSound}
 use Rattle.rules.specs.Tape.{Bytes}
 use Rattle.table.specs.Image.{imageSize, view}
+use Rattle.why.specs.Tests.{reason}
 use Rattle.why.specs.Theorem.{Explains}
 use Rattle.port.specs.Step.{Stepped}
 use Rattle.port.specs.Why.{wrongLength, reasonOf}
@@ -21,7 +22,7 @@ abbrev pub WhyFifteen : Type 0
 WhyFifteen = (kind a b c d e f : ℕ) (l : List ℕ) → Bytes l → (x v : ℕ) (m : List ℕ) → Stepped kind a b c d e f l x v m → (reasonOf l .rule ≡ 0) ↔ (x ≢ notSound)
 
 abbrev pub WhyLength : Type 0
-WhyLength = (l : List ℕ) → (reasonOf l .rule ≡ wrongLength) ↔ (length l ≢ imageSize)
+WhyLength = (l : List ℕ) → (reasonOf l ≡ reason wrongLength 0) ↔ (length l ≢ imageSize)
 
 -- Of the right length: the reason is that of the table that the bytes show.
 abbrev pub WhyBroken : Type 0

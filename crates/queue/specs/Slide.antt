@@ -69,7 +69,7 @@ length-within from to v l = go (ltb from (length l)) refl (ltb to (length l))
     go true e false = refl
     go false e b = refl
 
--- ---- a slide is today's two shifts, where no slot between is free
+-- ---- a slide is a removal and an insertion, where no slot between is free
 
 -- What was pulled and is pushed again.
 push-pull : (v z : ℕ) (l : List ℕ) → push v (pull (z ∷ l)) ≡ v ∷ l

@@ -1,6 +1,6 @@
 // Ordered queues in place, on slices of any length. A slot is a byte: 0 is free, and v holds the id v - 1. The queue is packed to
 // the front, in the order of the keys that the caller lends (a key for each id, the smaller first), and among equals by arrival.
-// No function asks anything of its caller; each refusal leaves the slots as they came.
+// No public function asks anything of its caller; each refusal leaves the slots as they came.
 ghost use mathlib.Core.Path.{_≡_};
 ghost use lib.ListN.{length, getD, drop};
 ghost use Prim.Native.Nat.{_+_, _<_};
@@ -132,7 +132,7 @@ fn open_up(ids: &mut [u8], at: usize, v: u8) -> u8
     carry
 }
 
-// The same.
+// The same, with a look ahead at the front.
 pub fn open(ids: &mut [u8], at: usize, v: u8) -> u8
     ensures { λ r. ⌜ (r ≡ fallen at v (now (ids .entry))) × (now (ids .exit) ≡ opened at v (now (ids .entry))) ⌝ }
 {

@@ -128,7 +128,7 @@ pub fn open_nines(ids: &mut [u8], at: usize, v: u8) -> u8
     open_each(ids, j, carry)
 }
 
-// The same towards the front.
+// `open_each` towards the front.
 fn close_each(ids: &mut [u8], at: usize)
     ensures { λ _. ⌜ now (ids .exit) ≡ closed at (now (ids .entry)) ⌝ }
 {

@@ -27,7 +27,7 @@ fn may_run(s: &[u8], v: u8) -> bool
     table::moves::is_able(s, v as usize - 1)
 }
 
-// Tick counter, default quantum and lock depth. Every tick of 32 bits and every quantum of 16 is in range, but for 0.
+// Tick counter, default quantum and lock depth. Every tick of 32 bits is in range, and every quantum of 16 but 0.
 fn are_numbers_right(s: &[u8]) -> bool
     requires { ⌜ Image (now s) ⌝ }
     ensures { λ r. ⌜ r ≡ isSoundNumbers (view (now (s .entry))) ⌝ }

@@ -6,12 +6,15 @@ ghost use Rattle.table.specs.Image.{Image, view};
 ghost use Rattle.table.specs.Shape.{freshBytes};
 use crate::layout;
 
+// The default quantum of the fresh table. It has two bytes there, and the second is 0.
+const FRESH_QUANTUM: u8 = 100;
+
 // Byte i of the fresh image.
 fn fresh_byte(i: usize) -> u8
     ensures { λ r. ⌜ r ≡ getD freshBytes i 0 ⌝ }
 {
     if i == layout::DEFAULT_QUANTUM {
-        return 100;
+        return FRESH_QUANTUM;
     }
     0
 }

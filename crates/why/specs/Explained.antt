@@ -1,6 +1,6 @@
 -- A table breaks no rule of `Broken` exactly where it is sound, and `whyOf` finds the first: what `Theorem` states.
 use mathlib.Core.Path.{_≡_, sym, ap, subst, _∙_}
-use mathlib.Core.Logic.{inl, inr}
+use mathlib.Core.Logic.{inl, inr, _≢_}
 use mathlib.Core.Bool.{true, false, true≢false, false≢true}
 use Prim.Native.Nat.{ℕ, _+_, _*_, _≤_, _<_}
 use native.Mathlib.Omega.{arith}
@@ -201,6 +201,7 @@ module _ {t : Table} (w : Shaped t) where
       record {
         sound = ((λ z. keeps-sound w k), λ s. rule);
         below = omega (arith, rule);
+        none = λ z. ap (λ (x : Reason). x .number) e;
         broken = λ n. absurd (n rule);
         rules = λ c i l b. k c i b;
         records = λ i l b. k (r .rule) i b;
@@ -210,9 +211,11 @@ module _ {t : Table} (w : Shaped t) where
   first-broken : {r : Reason} → FirstBroken 0 ruleEnd (r .rule) (r .number) t → Explains t r
   first-broken {r} f =
       let b : Broken t (r .rule) (r .number) = fails-broken t (r .rule) (r .number) w (f .fails) in
+      let not-zero : r .rule ≢ 0 = λ z. no-rule (subst (λ (c : ℕ). Broken t c (r .number)) z b) in
       record {
-        sound = ((λ z. absurd (no-rule (subst (λ (c : ℕ). Broken t c (r .number)) z b))), λ s. absurd (sound-keeps s b));
+        sound = ((λ z. absurd (not-zero z)), λ s. absurd (sound-keeps s b));
         below = omega (arith, f .within .1);
+        none = λ z. absurd (not-zero z);
         broken = λ n. b;
         rules = λ c i l d. not-broken w (f .rules c (omega arith) l i (broken-fails w d .1)) d;
         records = λ i l d. not-broken w (f .records i l) d;

@@ -1,6 +1,6 @@
 -- The slots of a queue, one after another.
 use mathlib.Core.Path.{_≡_, subst}
-use mathlib.Core.Bool.{true, false}
+use mathlib.Core.Bool.{Bool, true, false}
 use mathlib.Core.List.{List, [], _∷_}
 use Prim.Native.Nat.{ℕ, zero, suc, _+_, _*_, _/_, _%_, _≤_, _<_}
 use native.Mathlib.Numerals.{add-one}
@@ -14,6 +14,7 @@ use Rattle.queue.specs.Order.{All, none, more, Le, Ordered, empty, front, one, 
 use Rattle.queue.specs.Checked.{first-le, le-all}
 use Rattle.rules.specs.Sizes.{taskCount}
 use Rattle.rules.specs.Table.{queueCount}
+use Rattle.rules.specs.Sound.{once}
 use Rattle.rules.specs.Decides.{Decides, equals, at-most, fails, either, both}
 use Rattle.why.specs.Tests.{mayStand}
 
@@ -26,6 +27,10 @@ count-at u l j h = let cut : drop j l ≡ getD l j 0 ∷ drop (j + 1) l = rw add
 pub count-end : (u : ℕ) (l : List ℕ) (j : ℕ) → length l ≤ j → count u (drop j l) ≡ 0
 unfolding count
 count-end u l j h = rw (drop-of-length-le l h)
+
+pub once-most : (b : Bool) → once b ≤ 1
+once-most true = omega arith
+once-most false = omega arith
 
 -- ---- all slots, and each by its number
 

@@ -22,6 +22,8 @@ pub record Explains (t : Table) (r : Reason) : Type 0 where
   -- the rule is 0 exactly where the table is sound, and always below 0xC0;
   pub sound : (r .rule ≡ 0) ↔ Sound t
   pub below : r .rule < ruleEnd
+  -- with rule 0 the record is 0 too;
+  pub none : r .rule ≡ 0 → r .number ≡ 0
   -- else it is a rule of the list, and it is broken at that record;
   pub broken : r .rule ≢ 0 → Broken t (r .rule) (r .number)
   -- each rule with a smaller number is kept by every record,

@@ -15,7 +15,7 @@ use table::moves;
 pub const RECORDS: usize = layout::QUEUES * layout::SLOTS;
 
 fn once(b: bool) -> u8
-    ensures { λ r. ⌜ (r ≡ once b) × (r ≤ 1) ⌝ }
+    ensures { λ r. ⌜ r ≡ once b ⌝ }
 {
     if b {
         return 1;

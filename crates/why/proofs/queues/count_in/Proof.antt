@@ -2,13 +2,14 @@ use mathlib.Core.Path.{_≡_}
 use Prim.Native.Nat.{_+_, _-_, _≤_}
 use native.Mathlib.Nat.{zero-add}
 use native.Mathlib.Omega.{arith}
+use lib.Dec.{eqb}
 use lib.ListN.{drop}
 use Rattle.queue.specs.Order.{one, count}
 use Rattle.rules.specs.Sizes.{taskCount}
 use Rattle.rules.specs.Table.{queueOf, slotIn}
 use Rattle.table.specs.Image.{view}
 use Rattle.table.specs.Queues.{view-slots}
-use Rattle.why.specs.Slots.{count-at, count-end}
+use Rattle.why.specs.Slots.{count-at, count-end, once-most}
 use borrow.Author.Needs.{needs}
 use Rattle.why.proofs.queues.count_in.Statement.{statement}
 use Rattle.why.proofs.queues.count_in.Tie as tie
@@ -29,7 +30,7 @@ once-requires : tie.Need-once-requires Inv-loop μ-loop
 once-requires c κs = search needs
 
 add-n : tie.Need-add-n Inv-loop μ-loop
-add-n c = omega (arith, c .once .ensures)
+add-n c = let a = c .before .before .before .before .before .args in omega (arith, c .once .ensures, once-most (eqb (c .before .slot-in .result) (a .v)))
 
 add-j : tie.Need-add-j Inv-loop μ-loop
 add-j c = omega arith
@@ -43,7 +44,7 @@ loop-again c =
     let a = c .before .before .before .before .before .args in
     let t = view (a .s .now) in
     let e : c .once .result ≡ one (a .v) (slotIn (a .q) (l .j) t) = cc in
-    omega (arith, c .once .ensures .1, e, l .inv, count-at (a .v) (queueOf t (a .q)) (l .j) (omega (arith, view-slots (a .s .now) (omega arith) (a .q) (omega arith))))
+    omega (arith, e, c .once .ensures, once-most (eqb (c .before .slot-in .result) (a .v)), l .inv, count-at (a .v) (queueOf t (a .q)) (l .j) (omega (arith, view-slots (a .s .now) (omega arith) (a .q) (omega arith))))
 
 returns : tie.Need-returns Inv-loop μ-loop
 returns c =
