@@ -4,7 +4,7 @@
  *     bench --growth FILE
  *
  * The calls of each sequence are recorded first, with the plain kernel saying who runs; then all variants play them, answers, running
- * tasks and every byte of the image are compared after each call, and only then the clock is used.
+ * tasks, further results and every byte of the image are compared after each call, and only then the clock is used.
  *
  * Times of a sequence: it is played from the fresh table in each round, the variants in turn, and the clock is read every CHUNK
  * calls; of each chunk the median of the rounds counts, so that a round in which another program had the processor is not counted.
@@ -171,7 +171,8 @@ static void print_what(unsigned rounds)
     printf("%d calls a sequence, %u rounds; the deepest chain that a wait joined:", CALLS, rounds);
     for (q = 0; q < SEQUENCES; q++)
         printf(" %s %u%s", sequences[q]->name, sequences[q]->deepest, q + 1 < SEQUENCES ? "," : "\n");
-    printf("all variants agree: answers, running tasks and tables, after each of %d calls and in %u cases\n", SEQUENCES * CALLS, case_count);
+    printf("all variants agree: answers, running tasks, further results and tables, after each of %d calls and in %u cases\n",
+           SEQUENCES * CALLS, case_count);
 }
 
 static void print_tests(const double all[TIMED])
@@ -182,7 +183,7 @@ static void print_tests(const double all[TIMED])
     for (q = 0; q <= SEQUENCES; q++) {
         const double *ns = q < SEQUENCES ? ns_of_sequence[q] : all;
         double test = ns[STEP] - ns[SERVE];
-        printf("%-18s%10.1f%10.1f%12.1f\n", q < SEQUENCES ? sequences[q]->name : "mean of the five", ns[PASS], test, test / ns[PASS]);
+        printf("%-18s%10.1f%10.1f%12.1f\n", q < SEQUENCES ? sequences[q]->name : "mean of the six", ns[PASS], test, test / ns[PASS]);
     }
 }
 
@@ -197,7 +198,7 @@ static void print_sequences(void)
         for (v = 0; v < TIMED; v++)
             all[v] += ns_of_sequence[q][v] / SEQUENCES;
     }
-    print_row("mean of the five", all);
+    print_row("mean of the six", all);
     print_tests(all);
 }
 

@@ -34,6 +34,12 @@ static const struct kind all_kinds[] = {
     {NTK_GROUP_WAIT, "group wait"},
     {NTK_GROUP_POST, "group post"},
     {NTK_GROUP_ABORT, "group abort"},
+    {NTK_CHANNEL_CREATE, "channel create"},
+    {NTK_CHANNEL_DELETE, "channel delete"},
+    {NTK_CHANNEL_WAIT, "channel wait"},
+    {NTK_CHANNEL_POST, "channel post"},
+    {NTK_CHANNEL_ABORT, "channel abort"},
+    {NTK_CHANNEL_FLUSH, "channel flush"},
 };
 _Static_assert(sizeof all_kinds / sizeof all_kinds[0] == KINDS, "a row for each kind");
 const struct kind *const kinds = all_kinds;
@@ -133,20 +139,31 @@ static void build_equals(void)
     make(NTK_SEMAPHORE_WAIT, 15, 1, 0);
     bad_case("before 31 able tasks", NTK_SEMAPHORE_POST, 15, 0, 0);
     bad_case("before 31 able tasks", NTK_SEMAPHORE_ABORT, 15, 0, 0);
+    make(NTK_SEMAPHORE_ABORT, 15, 0, 0);
+    make(NTK_CHANNEL_CREATE, 15, 1, 0);
+    make(NTK_CHANNEL_WAIT, 15, 1, 0);
+    bad_case("before 31 able tasks", NTK_CHANNEL_POST, 15, 7, 0);
+    bad_case("before 31 able tasks", NTK_CHANNEL_ABORT, 15, 0, 0);
+}
+
+/* 31 tasks wait for number 0 of a kind, for one tick, each before all that came; a 32nd runs. */
+static void make_waiters(unsigned wait)
+{
+    unsigned i;
+
+    for (i = 0; i < 31; i++) {
+        make(NTK_TASK_CREATE, i, 60 - i, 0);
+        make(wait, 0, 1, 1);
+    }
+    make(NTK_TASK_CREATE, 31, 10, 0);
 }
 
 /* 31 tasks wait for a semaphore; one runs. */
 static void build_waiters(void)
 {
-    unsigned i;
-
     plain_fresh(&built);
     make(NTK_SEMAPHORE_CREATE, 0, 0, 0);
-    for (i = 0; i < 31; i++) {
-        make(NTK_TASK_CREATE, i, 60 - i, 0);
-        make(NTK_SEMAPHORE_WAIT, 0, 1, 1);
-    }
-    make(NTK_TASK_CREATE, 31, 10, 0);
+    make_waiters(NTK_SEMAPHORE_WAIT);
     bad_case("the 32nd waiter, before all", NTK_SEMAPHORE_WAIT, 0, 1, 5);
     bad_case("31 waiters time out", NTK_TICK, 0, 0, 0);
     bad_case("31 waiters, forced", NTK_SEMAPHORE_DELETE, 0, 1, 0);
@@ -173,6 +190,48 @@ static void build_flags(void)
     bad_case("31 waiters for flags", NTK_GROUP_ABORT, 0, 0, 0);
     bad_case("31 waiters for flags, forced", NTK_GROUP_DELETE, 0, 1, 0);
     bad_case("the last of 31 waiters for flags goes first", NTK_CHANGE_PRIORITY, 0, 1, 0);
+}
+
+/* 31 tasks wait for a message; one runs. */
+static void build_listeners(void)
+{
+    plain_fresh(&built);
+    bad_case("a channel in the fresh table", NTK_CHANNEL_CREATE, 0, NTK_MOST_MESSAGES, 0);
+    make(NTK_CHANNEL_CREATE, 0, NTK_MOST_MESSAGES, 0);
+    make_waiters(NTK_CHANNEL_WAIT);
+    bad_case("the 32nd waiter for a message, before all", NTK_CHANNEL_WAIT, 0, 1, 5);
+    bad_case("31 waiters for a message", NTK_CHANNEL_POST, 0, 7, 0);
+    bad_case("31 waiters for a message time out", NTK_TICK, 0, 0, 0);
+    bad_case("31 waiters for a message", NTK_CHANNEL_ABORT, 0, 0, 0);
+    bad_case("31 waiters for a message", NTK_CHANNEL_FLUSH, 0, 0, 0);
+    bad_case("31 waiters for a message, forced", NTK_CHANNEL_DELETE, 0, 1, 0);
+}
+
+static void make_channel(unsigned channel, unsigned messages)
+{
+    unsigned i;
+
+    make(NTK_CHANNEL_CREATE, channel, NTK_MOST_MESSAGES, 0);
+    for (i = 0; i < messages; i++)
+        make(NTK_CHANNEL_POST, channel, UINT32_MAX - i, 0);
+}
+
+/* 32 able tasks, and all 16 channels in use: one is full, one nearly, and the others have a message each. */
+static void build_messages(void)
+{
+    unsigned i;
+
+    plain_fresh(&built);
+    for (i = 0; i < 32; i++)
+        make(NTK_TASK_CREATE, i, 30, 0);
+    for (i = 0; i < 16; i++)
+        make_channel(i, i == 14 ? 31 : i == 15 ? 32 : 1);
+    bad_case("the first of 32 messages", NTK_CHANNEL_WAIT, 15, 1, 0);
+    bad_case("32 messages", NTK_CHANNEL_FLUSH, 15, 0, 0);
+    bad_case("32 messages", NTK_CHANNEL_DELETE, 15, 0, 0);
+    bad_case("before 31 messages", NTK_CHANNEL_POST, 14, 7, 1);
+    bad_case("behind 31 messages", NTK_CHANNEL_POST, 14, 7, 0);
+    bad_case("the one message", NTK_CHANNEL_WAIT, 0, 1, 0);
 }
 
 /* 32 tasks sleep until the same tick. */
@@ -293,6 +352,8 @@ static void build_cases(void)
     build_equals();
     build_waiters();
     build_flags();
+    build_listeners();
+    build_messages();
     build_sleepers();
     build_chain(0, 0);
     build_chain(1, 0);

@@ -9,7 +9,7 @@ struct kind {
     uint8_t kind;
     const char *name;
 };
-enum { KINDS = 27 };
+enum { KINDS = 33 };
 extern const struct kind *const kinds;
 
 extern struct one_case *cases;

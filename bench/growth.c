@@ -79,6 +79,31 @@ static struct call wake_of(struct plain *k, unsigned n)
     return (struct call){NTK_GROUP_POST, {0, 3, 1}};
 }
 
+/* A task runs, and channel 0 holds n messages. */
+static void fill_channel(struct plain *k, unsigned n)
+{
+    unsigned i;
+
+    must(k, NTK_TASK_CREATE, 0, 5, 0);
+    must(k, NTK_CHANNEL_CREATE, 0, NTK_MOST_MESSAGES, 0);
+    for (i = 0; i < n; i++)
+        must(k, NTK_CHANNEL_POST, 0, 1 + i, NTK_AT_END);
+}
+
+/* The first of n messages is taken. */
+static struct call take_of(struct plain *k, unsigned n)
+{
+    fill_channel(k, n);
+    return (struct call){NTK_CHANNEL_WAIT, {0, 1}};
+}
+
+/* A message goes before all others, into a channel that then has n. */
+static struct call front_of(struct plain *k, unsigned n)
+{
+    fill_channel(k, n - 1);
+    return (struct call){NTK_CHANNEL_POST, {0, n, NTK_IN_FRONT}};
+}
+
 /* Tasks 1 to n hold a mutex each, and each but the first waits for that of the one before; task 0, the most urgent, runs. */
 static void link_up(struct plain *k, unsigned n)
 {
@@ -119,6 +144,8 @@ static const struct {
     {"semaphore post", "in its queue", 31, leave_of},
     {"flag post: none", "in its queue", 31, pass_of},
     {"flag post: all", "in its queue", 31, wake_of},
+    {"channel take", "messages", 32, take_of},
+    {"channel front post", "messages", 32, front_of},
     {"mutex wait: rises", "holders in the chain", 16, rise_of},
     {"mutex abort: falls", "holders in the chain", 16, fall_of},
 };

@@ -4,7 +4,7 @@
 #include <stddef.h>
 #include <string.h>
 
-enum { QUEUES = 1 + 2 * PLAIN_OBJECTS + PLAIN_GROUPS };
+enum { QUEUES = 1 + 3 * PLAIN_OBJECTS + PLAIN_GROUPS };
 
 /* Single bytes alone, so that there is no padding. */
 struct columns {
@@ -13,7 +13,7 @@ struct columns {
         uint8_t state[PLAIN_TASKS], object[PLAIN_TASKS], marked[PLAIN_TASKS], outcome[PLAIN_TASKS];
         uint8_t test[PLAIN_TASKS], consume[PLAIN_TASKS];
         uint8_t quantum[PLAIN_TASKS][2], left[PLAIN_TASKS][2];
-        uint8_t due[PLAIN_TASKS][4], mask[PLAIN_TASKS][4];
+        uint8_t due[PLAIN_TASKS][4], mask[PLAIN_TASKS][4], message[PLAIN_TASKS][4];
     } task;
     struct {
         uint8_t used[PLAIN_OBJECTS];
@@ -26,20 +26,27 @@ struct columns {
         uint8_t used[PLAIN_GROUPS];
         uint8_t flags[PLAIN_GROUPS][4];
     } group;
+    struct {
+        uint8_t used[PLAIN_OBJECTS], capacity[PLAIN_OBJECTS], held[PLAIN_OBJECTS];
+    } channel;
     uint8_t queue[QUEUES][PLAIN_TASKS];
     uint8_t tick[4], default_quantum[2], depth, running;
+    uint8_t slots[PLAIN_OBJECTS][PLAIN_MESSAGES][4];
 };
 
 _Static_assert(offsetof(struct columns, task.test) == 256, "tests");
 _Static_assert(offsetof(struct columns, task.quantum) == 320, "quanta");
 _Static_assert(offsetof(struct columns, task.due) == 448, "due marks");
 _Static_assert(offsetof(struct columns, task.mask) == 576, "masks");
-_Static_assert(offsetof(struct columns, semaphore) == 704, "semaphores");
-_Static_assert(offsetof(struct columns, mutex) == 784, "mutexes");
-_Static_assert(offsetof(struct columns, group) == 832, "groups");
-_Static_assert(offsetof(struct columns, queue) == 872, "queues");
-_Static_assert(offsetof(struct columns, tick) == 2184, "tick");
-_Static_assert(offsetof(struct columns, depth) == 2190, "depth");
+_Static_assert(offsetof(struct columns, task.message) == 704, "the tasks' messages");
+_Static_assert(offsetof(struct columns, semaphore) == 832, "semaphores");
+_Static_assert(offsetof(struct columns, mutex) == 912, "mutexes");
+_Static_assert(offsetof(struct columns, group) == 960, "groups");
+_Static_assert(offsetof(struct columns, channel) == 1000, "channels");
+_Static_assert(offsetof(struct columns, queue) == 1048, "queues");
+_Static_assert(offsetof(struct columns, tick) == 2872, "tick");
+_Static_assert(offsetof(struct columns, depth) == 2878, "depth");
+_Static_assert(offsetof(struct columns, slots) == 2880, "messages");
 _Static_assert(sizeof(struct columns) == NTK_IMAGE_SIZE, "size");
 
 static void put16(uint8_t at[2], uint32_t n)
@@ -72,6 +79,7 @@ static void put_task(struct columns *to, const struct plain *k, unsigned i)
     to->task.test[i] = (uint8_t)k->wanted[i].test;
     to->task.consume[i] = (uint8_t)k->wanted[i].consume;
     put32(to->task.mask[i], k->wanted[i].mask);
+    put32(to->task.message[i], k->message[i]);
 }
 
 static void put_objects(struct columns *to, const struct plain *k, unsigned i)
@@ -91,10 +99,30 @@ static void put_group(struct columns *to, const struct plain *k, unsigned i)
     put32(to->group.flags[i], k->group[i].flags);
 }
 
-/* Queue 0 is that of the able tasks. */
+static void put_channel(struct columns *to, const struct plain *k, unsigned i)
+{
+    unsigned j;
+
+    to->channel.used[i] = k->channel.used[i];
+    to->channel.capacity[i] = k->channel.capacity[i];
+    to->channel.held[i] = k->channel.held[i];
+    for (j = 0; j < PLAIN_MESSAGES; j++)
+        put32(to->slots[i][j], k->slots[i][j]);
+}
+
+/* Queue 0 is that of the able tasks; those of the channels are the last. */
+static unsigned head_of(unsigned queue)
+{
+    enum { CHANNELS = QUEUES - PLAIN_OBJECTS };
+
+    if (queue == 0)
+        return PLAIN_ABLE;
+    return queue < CHANNELS ? PLAIN_SEMAPHORE + queue - 1 : PLAIN_CHANNEL + queue - CHANNELS;
+}
+
 static void put_queue(struct columns *to, const struct plain *k, unsigned queue)
 {
-    unsigned head = queue == 0 ? PLAIN_ABLE : PLAIN_SEMAPHORE + queue - 1;
+    unsigned head = head_of(queue);
     uint8_t *slot = to->queue[queue];
     unsigned i;
 
@@ -114,6 +142,8 @@ void image_of(const struct plain *k, uint8_t image[NTK_IMAGE_SIZE])
         put_objects(&to, k, i);
     for (i = 0; i < PLAIN_GROUPS; i++)
         put_group(&to, k, i);
+    for (i = 0; i < PLAIN_OBJECTS; i++)
+        put_channel(&to, k, i);
     for (i = 0; i < QUEUES; i++)
         put_queue(&to, k, i);
     put32(to.tick, k->tick);

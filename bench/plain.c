@@ -285,6 +285,7 @@ static unsigned task_delete(struct plain *k, uint32_t a)
     }
     memset(t, 0, sizeof *t);
     want_nothing(k, a);
+    k->message[a] = 0;
     k->work[a] = 0;
     k->marked &= ~(UINT32_C(1) << a);
     return NTK_DONE;
@@ -765,11 +766,156 @@ static unsigned group_abort(struct plain *k, uint32_t a)
     return abort_first(k, PLAIN_GROUP + a);
 }
 
+static unsigned channel_create(struct plain *k, uint32_t a, uint32_t b)
+{
+    if (a >= PLAIN_OBJECTS)
+        return NTK_BEYOND_RANGE;
+    if (k->channel.used[a])
+        return NTK_IN_USE;
+    if (b == 0 || b > PLAIN_MESSAGES)
+        return NTK_BAD_VALUE;
+    k->channel.used[a] = 1;
+    k->channel.capacity[a] = (uint8_t)b;
+    return NTK_DONE;
+}
+
+/* Messages move two at a time, inline: a call of the C library, and vectors too, would have every call of the kernel align its stack. */
+static inline void move_two(uint32_t *to, const uint32_t *from)
+{
+    uint64_t two;
+
+    memcpy(&two, from, sizeof two);
+    memcpy(to, &two, sizeof two);
+}
+
+static inline uint32_t take_first(struct plain *k, unsigned a)
+{
+    uint32_t *slot = k->slots[a], message = slot[0];
+    unsigned last = --k->channel.held[a], j;
+
+    for (j = 0; j + 1 < last; j += 2)
+        move_two(slot + j, slot + j + 1);
+    slot[j] = slot[last];
+    slot[last] = 0;
+    return message;
+}
+
+static inline void put_first(struct plain *k, unsigned a, uint32_t message)
+{
+    uint32_t *slot = k->slots[a];
+    unsigned j = k->channel.held[a]++;
+
+    for (; j > 1; j -= 2)
+        move_two(slot + j - 1, slot + j - 2);
+    slot[j] = slot[0];
+    slot[0] = message;
+}
+
+/* How many messages went. */
+static inline unsigned empty_channel(struct plain *k, unsigned a)
+{
+    unsigned held = k->channel.held[a], j;
+
+    for (j = 0; j < held; j += 2)
+        memset(k->slots[a] + j, 0, 2 * sizeof k->slots[a][0]);
+    k->channel.held[a] = 0;
+    return held;
+}
+
+static unsigned channel_delete(struct plain *k, uint32_t a, uint32_t b)
+{
+    unsigned head = PLAIN_CHANNEL + a, answer;
+
+    if (a >= PLAIN_OBJECTS)
+        return NTK_BEYOND_RANGE;
+    if (!k->channel.used[a])
+        return NTK_NOT_IN_USE;
+    answer = delete_answer(k, head, b);
+    if (answer != NTK_DONE)
+        return answer;
+    while (k->next[head] != head)
+        end_wait(k, k->next[head], NTK_DELETED);
+    empty_channel(k, a);
+    k->channel.used[a] = 0;
+    k->channel.capacity[a] = 0;
+    return NTK_DONE;
+}
+
+static unsigned channel_wait(struct plain *k, uint32_t a, uint32_t b, uint32_t c)
+{
+    unsigned i = k->running;
+
+    if (i == PLAIN_NONE)
+        return NTK_NONE_RUNNING;
+    if (a >= PLAIN_OBJECTS)
+        return NTK_BEYOND_RANGE;
+    if (!k->channel.used[a])
+        return NTK_NOT_IN_USE;
+    if (b > 1)
+        return NTK_BAD_VALUE;
+    if (k->channel.held[a] > 0) {
+        k->message[i] = take_first(k, a);
+        k->task[i].outcome = NTK_GIVEN;
+        return NTK_DONE;
+    }
+    if (!b)
+        return NTK_NOTHING_TO_TAKE;
+    if (k->depth > 0)
+        return NTK_WHILE_LOCKED;
+    block(k, i, PLAIN_WAITS_MESSAGE, a, PLAIN_CHANNEL + a, c);
+    return NTK_BLOCKS;
+}
+
+static unsigned channel_post(struct plain *k, uint32_t a, uint32_t message, uint32_t front)
+{
+    unsigned head = PLAIN_CHANNEL + a, first;
+
+    if (a >= PLAIN_OBJECTS)
+        return NTK_BEYOND_RANGE;
+    if (!k->channel.used[a])
+        return NTK_NOT_IN_USE;
+    if (front > 1)
+        return NTK_BAD_VALUE;
+    if (k->channel.held[a] >= k->channel.capacity[a])
+        return NTK_CHANNEL_FULL;
+    first = k->next[head];
+    if (first != head) {
+        k->message[first] = message;
+        leave(k, first);
+        become_plain(k, first, NTK_GIVEN);
+        return NTK_DONE;
+    }
+    if (front)
+        put_first(k, a, message);
+    else
+        k->slots[a][k->channel.held[a]++] = message;
+    return NTK_DONE;
+}
+
+static unsigned channel_abort(struct plain *k, uint32_t a)
+{
+    if (a >= PLAIN_OBJECTS)
+        return NTK_BEYOND_RANGE;
+    if (!k->channel.used[a])
+        return NTK_NOT_IN_USE;
+    return abort_first(k, PLAIN_CHANNEL + a);
+}
+
+/* How many messages went stands in the second byte of what it gives back. */
+static unsigned channel_flush(struct plain *k, uint32_t a)
+{
+    if (a >= PLAIN_OBJECTS)
+        return NTK_BEYOND_RANGE;
+    if (!k->channel.used[a])
+        return NTK_NOT_IN_USE;
+    return NTK_DONE | empty_channel(k, a) << 8;
+}
+
 static inline unsigned serve(struct plain *k, uint8_t kind, uint32_t a, uint32_t b, uint32_t c, uint32_t d, uint32_t e, uint32_t f)
 {
     if (kind & NTK_INTERRUPT) {
         kind &= (uint8_t)~NTK_INTERRUPT;
-        if (kind != NTK_TICK && kind != NTK_SEMAPHORE_POST && kind != NTK_GROUP_POST)
+        if (kind != NTK_TICK && kind != NTK_SEMAPHORE_POST && kind != NTK_GROUP_POST && kind != NTK_CHANNEL_POST)
             return NTK_BY_INTERRUPT;
     }
     switch (kind) {
@@ -827,20 +973,30 @@ static inline unsigned serve(struct plain *k, uint8_t kind, uint32_t a, uint32_t
         return group_post(k, a, b, c);
     case NTK_GROUP_ABORT:
         return group_abort(k, a);
+    case NTK_CHANNEL_CREATE:
+        return channel_create(k, a, b);
+    case NTK_CHANNEL_DELETE:
+        return channel_delete(k, a, b);
+    case NTK_CHANNEL_WAIT:
+        return channel_wait(k, a, b, c);
+    case NTK_CHANNEL_POST:
+        return channel_post(k, a, b, c);
+    case NTK_CHANNEL_ABORT:
+        return channel_abort(k, a);
+    case NTK_CHANNEL_FLUSH:
+        return channel_flush(k, a);
     default:
         return NTK_BEYOND_RANGE;
     }
 }
 
-struct plain_outcome plain_step(struct plain *k, uint8_t kind, uint32_t a, uint32_t b, uint32_t c, uint32_t d, uint32_t e, uint32_t f)
+uint64_t plain_packed(struct plain *k, uint8_t kind, uint32_t a, uint32_t b, uint32_t c, uint32_t d, uint32_t e, uint32_t f)
 {
-    struct plain_outcome o;
+    unsigned said = serve(k, kind, a, b, c, d, e, f);
 
-    o.answer = serve(k, kind, a, b, c, d, e, f);
     if (k->depth == 0)
         k->running = k->next[PLAIN_ABLE];
-    o.runs = k->running == PLAIN_NONE ? 0 : k->running + 1u;
-    return o;
+    return k->running == PLAIN_NONE ? said : (uint64_t)(k->running + 1u) << 32 | said;
 }
 
 /* The standing rules */
@@ -885,18 +1041,58 @@ static inline uint64_t eight(const void *at)
 #error "plain_check reads several bytes as one number, the lowest first"
 #endif
 
+/* Eight channels by their fields: a capacity of at most 32, which is not 0 exactly where the channel is in use, and no more messages than
+ * that. A bit is set where it is not so. */
+static inline uint64_t wrong_channels(const struct plain_channels *c, unsigned from)
+{
+    const uint64_t each = UINT64_C(0x0101010101010101), high = 128 * each;
+    uint64_t used = eight(c->used + from), capacity = eight(c->capacity + from), held = eight(c->held + from);
+    uint64_t too_many = capacity | held | (capacity + (127 - PLAIN_MESSAGES) * each) | ~((capacity | high) - held);
+
+    return (too_many & high) | (used ^ ((capacity + 127 * each) >> 7 & each));
+}
+
+typedef uint32_t four_slots __attribute__((vector_size(16), may_alias));
+
+/* `any`, and what stands in a row of slots behind its messages. */
+static inline four_slots with_unused(four_slots any, const uint32_t *slot, unsigned held)
+{
+    const four_slots *row = (const four_slots *)slot;
+
+    if (held == 0)
+        return any | row[0] | row[1] | row[2] | row[3] | row[4] | row[5] | row[6] | row[7];
+    for (; held % 4 != 0; held++)
+        any |= (four_slots){slot[held]};
+    for (; held < PLAIN_MESSAGES; held += 4)
+        any |= row[held / 4];
+    return any;
+}
+
+/* What stands in the slots without a message, where no channel holds more than a row has. */
+static inline uint64_t unused_slots(const struct plain *k)
+{
+    four_slots any = {0};
+    uint64_t halves[2];
+    unsigned i;
+
+    for (i = 0; i < PLAIN_OBJECTS; i++)
+        any = with_unused(any, k->slots[i], k->channel.held[i]);
+    memcpy(halves, &any, sizeof halves);
+    return halves[0] | halves[1];
+}
+
 /* Several bytes are tested together where that can be done, and with few branches: most of the time goes into the 32 tasks. */
 int plain_check(const struct plain *k)
 {
     enum { BASE = 8, STATE = 16, OBJECT = 24, OUTCOME = 48, SUSPENDED = 56 }; /* the first bits of these fields */
     const uint64_t too_high = UINT64_C(0xFE) | UINT64_C(0xC0) << BASE | UINT64_C(0xF8) << STATE | UINT64_C(0xF0) << OBJECT |
                               UINT64_C(0xFC) << OUTCOME;
-    const uint64_t short_of = UINT64_C(1) << BASE | UINT64_C(3) << STATE; /* of 64 and of 8 */
+    const uint64_t short_of = UINT64_C(1) << BASE | UINT64_C(2) << STATE; /* of 64 and of 8 */
     const uint64_t not_able = UINT64_C(0xFF) << SUSPENDED | UINT64_C(0xFF) << STATE;
     uint8_t place[PLAIN_TASKS], fresh[PLAIN_TASKS];
     uint32_t held = 0, held_twice = 0, owned = 0, through = 0;
     uint64_t wrong = 0;
-    unsigned queued = 0, bad = 0, part, i;
+    unsigned queued = 0, bad = 0, heads, i;
 
     /* Each task by itself, and where it belongs. */
     for (i = 0; i < PLAIN_TASKS; i++) {
@@ -906,12 +1102,12 @@ int plain_check(const struct plain *k)
 
         fresh[i] = t->base;
         if (!t->used) {
-            wrong |= word | eight(&t->quantum) | wanted;
+            wrong |= word | eight(&t->quantum) | wanted | k->message[i];
             bad |= marked;
         } else {
             const struct plain_wanted *w = &k->wanted[i];
             unsigned waits = t->state >= PLAIN_WAITS_SEMAPHORE;
-            wrong |= (word | (word + short_of)) & too_high; /* base 63 and state 5 too */
+            wrong |= (word | (word + short_of)) & too_high; /* base 63, states 6 and 7 too */
             if (t->state == PLAIN_WAITS_FLAGS)
                 bad |= (w->mask == 0) | (w->test > 3) | (w->consume > 1) | (t->object >= PLAIN_GROUPS);
             else
@@ -953,17 +1149,18 @@ int plain_check(const struct plain *k)
         const struct plain_group *g = &k->group[i];
         bad |= (g->used & ~UINT32_C(1)) | (g->flags & (g->used - 1));
     }
+    wrong |= wrong_channels(&k->channel, 0) | wrong_channels(&k->channel, 8);
     if (wrong | bad | held_twice | (held ^ owned) | (k->default_quantum == 0))
         return 0;
+    wrong |= unused_slots(k);
 
-    /* Queues: the able tasks, then eight objects at a time, of which only those with waiters are looked at. A walk comes back to its
-     * head, since each step is tested backwards. */
-    for (part = 0; part <= 5; part++) {
-        unsigned heads = part == 0 ? PLAIN_ABLE : PLAIN_SEMAPHORE + 8 * (part - 1);
+    /* Queues: eight heads at a time, of which only those with tasks are looked at. A walk comes back to its head, since each step is
+     * tested backwards. */
+    for (heads = PLAIN_SEMAPHORE; heads < PLAIN_NODES; heads += 8) {
         uint64_t own = UINT64_C(0x0706050403020100) + UINT64_C(0x0101010101010101) * heads;
-        uint64_t next = part == 0 ? 0xFF : eight(k->next + heads) ^ own, prev = part == 0 ? 0 : eight(k->prev + heads) ^ own;
+        uint64_t next = eight(k->next + heads) ^ own, prev = eight(k->prev + heads) ^ own;
 
-        wrong |= part == 0 ? k->work[PLAIN_ABLE] : eight(k->work + heads);
+        wrong |= eight(k->work + heads);
         while (next) {
             unsigned at = (unsigned)__builtin_ctzll(next) / 8, head = heads + at, before = head;
             uint8_t p = 0;
@@ -989,8 +1186,12 @@ int plain_check(const struct plain *k)
                     fresh[h] = k->work[first];
                 if (place[h] >= PLAIN_MUTEX && place[h] < PLAIN_GROUP)
                     through |= UINT32_C(1) << h;
-            } else if (head < PLAIN_ABLE && !k->group[head - PLAIN_GROUP].used) {
-                return 0;
+            } else if (head < PLAIN_ABLE) {
+                if (!k->group[head - PLAIN_GROUP].used)
+                    return 0;
+            } else if (head >= PLAIN_CHANNEL) {
+                if (!k->channel.used[head - PLAIN_CHANNEL] || k->channel.held[head - PLAIN_CHANNEL] != 0)
+                    return 0;
             }
             next &= ~(UINT64_C(0xFF) << 8 * at);
             prev &= ~(UINT64_C(0xFF) << 8 * at);

@@ -5,13 +5,22 @@
 
 #include <stdint.h>
 
-enum { PLAIN_TASKS = 32, PLAIN_OBJECTS = 16, PLAIN_GROUPS = 8 };
+enum { PLAIN_TASKS = 32, PLAIN_OBJECTS = 16, PLAIN_GROUPS = 8, PLAIN_MESSAGES = 32 };
 
 /* Each queue is a ring of nodes through a node of its own: node i is task i, then come the heads of the queues. A task in no queue
- * is a ring by itself. The head of the able queue stands for "no task" as well: it is what an empty able queue has first. */
-enum { PLAIN_SEMAPHORE = 32, PLAIN_MUTEX = 48, PLAIN_GROUP = 64, PLAIN_ABLE = 72, PLAIN_NONE = PLAIN_ABLE, PLAIN_NODES = 73 };
+ * is a ring by itself. The head of the able queue stands for "no task" as well: it is what an empty able queue has first. The heads of
+ * a state's queues begin at 16 times the state; the seven nodes behind PLAIN_ABLE are in no use, rings by themselves. */
+enum {
+    PLAIN_SEMAPHORE = 32,
+    PLAIN_MUTEX = 48,
+    PLAIN_GROUP = 64,
+    PLAIN_ABLE = 72,
+    PLAIN_NONE = PLAIN_ABLE,
+    PLAIN_CHANNEL = 80,
+    PLAIN_NODES = 96
+};
 
-enum plain_state { PLAIN_PLAIN, PLAIN_DELAYED, PLAIN_WAITS_SEMAPHORE, PLAIN_WAITS_MUTEX, PLAIN_WAITS_FLAGS };
+enum plain_state { PLAIN_PLAIN, PLAIN_DELAYED, PLAIN_WAITS_SEMAPHORE, PLAIN_WAITS_MUTEX, PLAIN_WAITS_FLAGS, PLAIN_WAITS_MESSAGE };
 
 /* plain_check tests the first eight bytes together: it knows their places. */
 struct plain_task {
@@ -50,6 +59,13 @@ struct plain_group {
     uint32_t flags;
 };
 
+/* The message queues, called channels, since a queue is a row of tasks. plain_check tests eight of them at a time. */
+struct plain_channels {
+    uint8_t used[PLAIN_OBJECTS];
+    uint8_t capacity[PLAIN_OBJECTS]; /* not 0 where it is in use */
+    uint8_t held[PLAIN_OBJECTS];     /* how many messages there are */
+};
+
 struct plain {
     uint32_t tick;
     uint32_t marked; /* the tasks with a due mark, a bit each */
@@ -57,26 +73,41 @@ struct plain {
     struct plain_semaphore semaphore[PLAIN_OBJECTS];
     struct plain_mutex mutex[PLAIN_OBJECTS];
     struct plain_group group[PLAIN_GROUPS];
+    struct plain_channels channel;
     struct plain_wanted wanted[PLAIN_TASKS];
+    uint32_t message[PLAIN_TASKS]; /* that each was given last */
     uint8_t next[PLAIN_NODES];
     uint8_t prev[PLAIN_NODES];
     uint8_t work[PLAIN_NODES]; /* working priorities; 0 for heads and free tasks */
     uint16_t default_quantum;  /* not 0 */
     uint8_t depth;
     uint8_t running; /* PLAIN_NONE for none */
+    _Alignas(16) uint32_t slots[PLAIN_OBJECTS][PLAIN_MESSAGES]; /* of the channels: their messages from the first on, then 0 */
 };
 
-/* `runs` is the task to run, plus 1; 0 is none. */
+/* `runs` is the task to run, plus 1; 0 is none. `further` is how many messages a flush took, else 0. */
 struct plain_outcome {
     uint32_t answer;
     uint32_t runs;
+    uint32_t further;
 };
 
 /* Makes the fresh table. */
 void plain_fresh(struct plain *k);
 
+/* An outcome as one number, which no processor here gives back through memory: the answer in the lowest byte, in the next what is
+ * further, and in the upper half what runs. */
+uint64_t plain_packed(struct plain *k, uint8_t kind, uint32_t a, uint32_t b, uint32_t c, uint32_t d, uint32_t e, uint32_t f);
+
 /* One call, kinds and numbers as in nonthachak.h. The table must be sound. */
-struct plain_outcome plain_step(struct plain *k, uint8_t kind, uint32_t a, uint32_t b, uint32_t c, uint32_t d, uint32_t e, uint32_t f);
+static inline struct plain_outcome plain_step(struct plain *k, uint8_t kind, uint32_t a, uint32_t b, uint32_t c, uint32_t d, uint32_t e,
+                                              uint32_t f)
+{
+    uint64_t packed = plain_packed(k, kind, a, b, c, d, e, f);
+    struct plain_outcome o = {packed & 0xFF, (uint32_t)(packed >> 32), packed >> 8 & 0xFF};
+
+    return o;
+}
 
 /* 1 where the table meets every standing rule, else 0; for any contents. */
 int plain_check(const struct plain *k);

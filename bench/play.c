@@ -45,14 +45,14 @@ void make_case(struct one_case *one, const char *name, const struct plain *k, st
 static inline struct ntk_outcome plain_call(struct plain *k, const struct call *c)
 {
     struct plain_outcome o = make_call(k, c);
-    struct ntk_outcome outcome = {o.answer, o.runs};
+    struct ntk_outcome outcome = {.answer = (uint16_t)o.answer, .further = (uint16_t)o.further, .runs = o.runs};
 
     return outcome;
 }
 
 static inline struct ntk_outcome checked_call(struct plain *k, const struct call *c)
 {
-    struct ntk_outcome refused = {NTK_NOT_SOUND, 0};
+    struct ntk_outcome refused = {NTK_NOT_SOUND, 0, 0};
 
     return plain_check(k) ? plain_call(k, c) : refused;
 }
@@ -69,7 +69,7 @@ static inline struct ntk_outcome step_call(uint8_t *image, const struct call *c)
 
 static inline uint64_t folded(uint64_t sum, struct ntk_outcome o)
 {
-    return sum + o.answer * 64 + o.runs;
+    return sum + o.answer * 64 + o.runs + o.further;
 }
 
 uint64_t play(enum variant v, const struct call *calls, size_t n, struct table *t)
@@ -129,8 +129,9 @@ static void tell_difference(const struct call *c, const char *name, size_t numbe
     fprintf(stderr, "bench: %s, call %lu, kind %02X (", name, (unsigned long)number, c->kind);
     for (i = 0; i < NUMBERS; i++)
         fprintf(stderr, "%lu%s", (unsigned long)c->n[i], i + 1 < NUMBERS ? ", " : "): ");
-    fprintf(stderr, "%s answers %lu and runs %lu, C answers %lu and runs %lu\n", variant_names[v], (unsigned long)o[v].answer,
-            (unsigned long)o[v].runs, (unsigned long)o[PLAIN].answer, (unsigned long)o[PLAIN].runs);
+    fprintf(stderr, "%s answers %lu, runs %lu and tells %lu, C answers %lu, runs %lu and tells %lu\n", variant_names[v],
+            (unsigned long)o[v].answer, (unsigned long)o[v].runs, (unsigned long)o[v].further, (unsigned long)o[PLAIN].answer,
+            (unsigned long)o[PLAIN].runs, (unsigned long)o[PLAIN].further);
 }
 
 void compare(const struct call *c, struct table tables[VARIANTS], const char *name, size_t number)
@@ -147,7 +148,7 @@ void compare(const struct call *c, struct table tables[VARIANTS], const char *na
     for (v = 0; v < VARIANTS; v++) {
         if (v == CHECKED)
             image_of(&tables[v].plain, tables[v].image);
-        if (o[v].answer != o[PLAIN].answer || o[v].runs != o[PLAIN].runs ||
+        if (o[v].answer != o[PLAIN].answer || o[v].runs != o[PLAIN].runs || o[v].further != o[PLAIN].further ||
             (v != PLAIN && memcmp(tables[v].image, image, sizeof image) != 0)) {
             tell_difference(c, name, number, v, o);
             failed("the variants differ");

@@ -1,104 +1,23 @@
 /* sequences.c: see sequences.h. */
-#include "sequences.h"
-
-#include <string.h>
+#include "record.h"
 
 static struct sequence kiosk = {.name = "kiosk"}, chains = {.name = "chains"}, ticks = {.name = "ticks"}, mixed = {.name = "random"},
-                       flags = {.name = "flags"};
+                       flags = {.name = "flags"}, channels = {.name = "channels"};
 
-struct sequence *const sequences[SEQUENCES] = {&kiosk, &chains, &ticks, &mixed, &flags};
-
-static struct plain recorder;
-
-/* How many tasks the chain from task i has, also where it leads into a ring. */
-static unsigned chain_from(const struct plain *k, unsigned i)
-{
-    uint32_t seen = UINT32_C(1) << i;
-    unsigned length = 1;
-
-    while (k->task[i].state == PLAIN_WAITS_MUTEX) {
-        i = k->mutex[k->task[i].object].holder;
-        if (seen >> i & 1)
-            break;
-        seen |= UINT32_C(1) << i;
-        length++;
-    }
-    return length;
-}
-
-static void record_call(struct sequence *s, struct call call)
-{
-    unsigned caller = recorder.running;
-    struct plain_outcome o;
-
-    if (s->length == CALLS)
-        return;
-    s->calls[s->length++] = call;
-    o = make_call(&recorder, &call);
-    if (call.kind == NTK_MUTEX_WAIT && o.answer == NTK_BLOCKS && chain_from(&recorder, caller) > s->deepest)
-        s->deepest = chain_from(&recorder, caller);
-}
-
-static void record(struct sequence *s, unsigned kind, uint32_t a, uint32_t b, uint32_t c)
-{
-    record_call(s, (struct call){(uint8_t)kind, {a, b, c}});
-}
-
-/* What a task does, over and over. A step with `given` is left out where the last wait was not given. */
-struct step {
-    struct call call;
-    int given;
-};
-
-struct worker {
-    struct step steps[12];
-    unsigned length, at;
-};
-
-static struct worker workers[NTK_TASKS];
-
-static void add_call(unsigned task, struct call call, int given)
-{
-    struct step *s = &workers[task].steps[workers[task].length++];
-
-    s->call = call;
-    s->given = given;
-}
-
-static void add_step(unsigned task, unsigned kind, uint32_t a, uint32_t b, uint32_t c, int given)
-{
-    add_call(task, (struct call){(uint8_t)kind, {a, b, c}}, given);
-}
-
-/* The running task does its next step. */
-static void work(struct sequence *s)
-{
-    unsigned i = recorder.running;
-    struct worker *w = &workers[i];
-    const struct step *next;
-
-    do {
-        next = &w->steps[w->at];
-        w->at = (w->at + 1) % w->length;
-    } while (next->given && recorder.task[i].outcome != NTK_GIVEN);
-    record_call(s, next->call);
-}
-
-static void begin(struct sequence *s)
-{
-    s->length = 0;
-    memset(workers, 0, sizeof workers);
-    plain_fresh(&recorder);
-}
-
-static void create_task(struct sequence *s, unsigned task, unsigned base, unsigned quantum)
-{
-    record(s, NTK_TASK_CREATE, task, base, quantum);
-}
+struct sequence *const sequences[SEQUENCES] = {&kiosk, &chains, &ticks, &mixed, &flags, &channels};
 
 enum { READER = 8, DECODER, OUTPUT, KEEPER };
 enum { ROOM, DATA, EMPTY, FULL, SHOW };
 enum { FRAMES = 4, CLOCK };
+
+/* The kiosk's four tasks. */
+static void create_household(struct sequence *s)
+{
+    create_task(s, OUTPUT, 10, 0);
+    create_task(s, READER, 20, 0);
+    create_task(s, DECODER, 30, 0);
+    create_task(s, KEEPER, 40, 0);
+}
 
 static void create_kiosk(struct sequence *s)
 {
@@ -111,10 +30,7 @@ static void create_kiosk(struct sequence *s)
     record(s, NTK_SEMAPHORE_CREATE, SHOW, 0, 0);
     record(s, NTK_MUTEX_CREATE, FRAMES, 0, 0);
     record(s, NTK_MUTEX_CREATE, CLOCK, 0, 0);
-    create_task(s, OUTPUT, 10, 0);
-    create_task(s, READER, 20, 0);
-    create_task(s, DECODER, 30, 0);
-    create_task(s, KEEPER, 40, 0);
+    create_household(s);
     record(s, NTK_UNLOCK, 0, 0, 0);
 }
 
@@ -313,8 +229,8 @@ static struct call some_call(void)
     return call;
 }
 
-/* Random calls of every kind but those of flag groups, from a fixed seed, on a well filled table. One refused call of twenty stays, the
- * rest are valid. */
+/* Random calls of every kind but those of flag groups and channels, from a fixed seed, on a well filled table. One refused call of twenty
+ * stays, the rest are valid. */
 static void record_mixed(void)
 {
     struct sequence *s = &mixed;
@@ -377,10 +293,7 @@ static void record_flags(void)
     record(s, NTK_LOCK, 0, 0, 0);
     record(s, NTK_GROUP_CREATE, SIGNS, 0, 0);
     record(s, NTK_GROUP_CREATE, STAGE, 0, 0);
-    create_task(s, OUTPUT, 10, 0);
-    create_task(s, READER, 20, 0);
-    create_task(s, DECODER, 30, 0);
-    create_task(s, KEEPER, 40, 0);
+    create_household(s);
     for (i = 0; i < VIEWER_COUNT; i++)
         create_task(s, VIEWERS + i, 32 + i / 4, 0);
     record(s, NTK_UNLOCK, 0, 0, 0);
@@ -397,6 +310,84 @@ static void record_flags(void)
     }
 }
 
+enum { ORDERS, FEED, SCREEN, PACE, SEATS, LOG, CHANNEL_COUNT };
+enum { USHERS = 16, USHER_COUNT = 4 };
+
+static void create_channels(struct sequence *s)
+{
+    static const uint32_t capacities[CHANNEL_COUNT] = {8, 4, 3, 2, 6, NTK_MOST_MESSAGES};
+    unsigned i;
+
+    for (i = 0; i < CHANNEL_COUNT; i++)
+        record(s, NTK_CHANNEL_CREATE, i, capacities[i], 0);
+    for (i = 0; i < NTK_MOST_MESSAGES; i++)
+        record(s, NTK_CHANNEL_POST, LOG, 0, NTK_AT_END);
+}
+
+static void add_channel_steps(void)
+{
+    unsigned i;
+
+    add_step(OUTPUT, NTK_CHANNEL_WAIT, PACE, 1, 0, 0);
+    add_step(OUTPUT, NTK_CHANNEL_WAIT, SCREEN, 1, 3, 0);
+    add_step(OUTPUT, NTK_CHANNEL_POST, LOG, 0, NTK_AT_END, 1);
+    add_step(READER, NTK_CHANNEL_WAIT, ORDERS, 1, 6, 0);
+    add_step(READER, NTK_CHANNEL_POST, FEED, 0, NTK_AT_END, 0);
+    add_step(READER, NTK_CHANNEL_WAIT, ORDERS, 1, 0, 0);
+    add_step(READER, NTK_CHANNEL_POST, FEED, 0, NTK_IN_FRONT, 0);
+    add_step(DECODER, NTK_CHANNEL_WAIT, FEED, 1, 0, 0);
+    add_step(DECODER, NTK_CHANNEL_POST, SCREEN, 0, NTK_AT_END, 0);
+    add_step(DECODER, NTK_CHANNEL_WAIT, FEED, 0, 0, 0);
+    add_step(DECODER, NTK_CHANNEL_POST, SEATS, 0, NTK_AT_END, 0);
+    add_step(DECODER, NTK_DELAY, 1, 0, 0, 0);
+    add_step(KEEPER, NTK_CHANNEL_WAIT, LOG, 1, 0, 0);
+    add_step(KEEPER, NTK_CHANNEL_POST, ORDERS, 0, NTK_IN_FRONT, 0);
+    add_step(KEEPER, NTK_DELAY, 2, 0, 0, 0);
+    add_step(KEEPER, NTK_CHANNEL_FLUSH, SCREEN, 0, 0, 0);
+    for (i = 0; i < USHER_COUNT; i++) {
+        add_step(USHERS + i, NTK_CHANNEL_WAIT, SEATS, 1, i % 2 ? 8 : 0, 0);
+        add_step(USHERS + i, NTK_CHANNEL_WAIT, SEATS, 1, 0, 0);
+        add_step(USHERS + i, NTK_DELAY, 3 + i, 0, 0, 0);
+    }
+}
+
+static void record_interrupt(struct sequence *s, unsigned number)
+{
+    enum { TICK = CHANNEL_COUNT };
+    static const uint8_t turns[] = {TICK, ORDERS, PACE, TICK, ORDERS, SEATS};
+    unsigned turn = turns[number % (sizeof turns / sizeof turns[0])];
+
+    if (turn == TICK)
+        record(s, NTK_TICK | NTK_INTERRUPT, 0, 0, 0);
+    else
+        record(s, NTK_CHANNEL_POST | NTK_INTERRUPT, turn, 0, NTK_AT_END);
+}
+
+/* The kiosk with channels: the clock posts orders, and each makes the reader post a frame, every second one in front; the decoder takes
+ * frames and posts to the screen, the output takes from there at the clock's pace and notes it in a log that is full, of which the
+ * housekeeper takes now and then; it also flushes the screen. Four ushers wait for seats, or find some. Every sixth call is an
+ * interrupt's, and others where nobody runs: of six of them two are ticks, and four posts. */
+static void record_channels(void)
+{
+    struct sequence *s = &channels;
+    unsigned i, n, interrupts = 0;
+
+    begin(s);
+    record(s, NTK_LOCK, 0, 0, 0);
+    create_channels(s);
+    create_household(s);
+    for (i = 0; i < USHER_COUNT; i++)
+        create_task(s, USHERS + i, 32 + i / 2, 0);
+    record(s, NTK_UNLOCK, 0, 0, 0);
+    add_channel_steps();
+    for (n = 0; s->length < CALLS; n++) {
+        if (recorder.running != PLAIN_NONE && n % 6 != 0)
+            work(s);
+        else
+            record_interrupt(s, interrupts++);
+    }
+}
+
 void record_sequences(void)
 {
     record_kiosk();
@@ -404,4 +395,5 @@ void record_sequences(void)
     record_ticks();
     record_mixed();
     record_flags();
+    record_channels();
 }

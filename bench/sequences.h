@@ -4,7 +4,7 @@
 
 #include "play.h"
 
-enum { CALLS = 20000, SEQUENCES = 5 };
+enum { CALLS = 20000, SEQUENCES = 6 };
 
 struct sequence {
     const char *name;

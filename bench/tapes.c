@@ -21,6 +21,8 @@ static int body(unsigned kind, int lengths[NUMBERS])
     case NTK_SEMAPHORE_DELETE:
     case NTK_MUTEX_DELETE:
     case NTK_GROUP_DELETE:
+    case NTK_CHANNEL_CREATE:
+    case NTK_CHANNEL_DELETE:
         a = 1, b = 1;
         break;
     case NTK_TASK_DELETE:
@@ -33,6 +35,8 @@ static int body(unsigned kind, int lengths[NUMBERS])
     case NTK_MUTEX_POST:
     case NTK_MUTEX_ABORT:
     case NTK_GROUP_ABORT:
+    case NTK_CHANNEL_ABORT:
+    case NTK_CHANNEL_FLUSH:
         a = 1;
         break;
     case NTK_DELAY:
@@ -47,12 +51,14 @@ static int body(unsigned kind, int lengths[NUMBERS])
         break;
     case NTK_SEMAPHORE_WAIT:
     case NTK_MUTEX_WAIT:
+    case NTK_CHANNEL_WAIT:
         a = 1, b = 1, c = 4;
         break;
     case NTK_GROUP_WAIT:
         a = 1, b = 1, c = 4, d = 4, e = 1, f = 1;
         break;
     case NTK_GROUP_POST:
+    case NTK_CHANNEL_POST:
         a = 1, b = 4, c = 1;
         break;
     case NTK_YIELD:

@@ -18,14 +18,14 @@ extern "C" {
 
 /* The version of this header; ntk_version() is that of the archive. A port is built right where the two are the same. */
 #define NTK_VERSION_MAJOR 1
-#define NTK_VERSION_MINOR 3
-#define NTK_VERSION_PATCH 1
+#define NTK_VERSION_MINOR 4
+#define NTK_VERSION_PATCH 0
 #define NTK_VERSION (NTK_VERSION_MAJOR * 10000u + NTK_VERSION_MINOR * 100u + NTK_VERSION_PATCH)
 
 uint32_t ntk_version(void);
 
 /* How long an image is. */
-#define NTK_IMAGE_SIZE 2192
+#define NTK_IMAGE_SIZE 4928
 
 /* The first call of every board: any bytes at `image` become the fresh table, with nothing in use, none running and the default quantum
  * NTK_FRESH_QUANTUM, and the answer is 0. With a `length` other than NTK_IMAGE_SIZE it is 15, and no byte changes.
@@ -36,14 +36,16 @@ uint32_t ntk_fresh(uint8_t *image, size_t length);
 #define NTK_TASKS 32
 #define NTK_SEMAPHORES 16
 #define NTK_MUTEXES 16
-#define NTK_GROUPS 8 /* of 32 flags each */
-#define NTK_QUEUES 41
+#define NTK_GROUPS 8    /* of 32 flags each */
+#define NTK_CHANNELS 16 /* message queues, called channels, since a queue is a row of tasks */
+#define NTK_QUEUES 57
 
 /* Limits, each the greatest that is taken. */
 #define NTK_LAST_PRIORITY 62       /* base and working priority; 0 is the most urgent */
 #define NTK_MOST_NESTED 250        /* suspends of a task, nesting of a mutex, lock depth */
 #define NTK_MOST_QUANTUM 65535     /* of a task, and the default */
 #define NTK_MOST_COUNT 4294967295u /* of a semaphore */
+#define NTK_MOST_MESSAGES 32       /* capacity of a channel */
 
 /* The default quantum of the fresh table; NTK_SET_DEFAULT_QUANTUM sets another. */
 #define NTK_FRESH_QUANTUM 100
@@ -80,13 +82,20 @@ enum ntk_kind {
                                   * d mask, not 0, e enum ntk_test, f consume 0 or 1          */
     NTK_GROUP_POST = 0x33,       /* a group, b mask, not 0, c 1 sets, 0 clears          T I S */
     NTK_GROUP_ABORT = 0x34,      /* a group                                             T S   */
+    NTK_CHANNEL_CREATE = 0x40,   /* a channel, b capacity 1..32                         T S   */
+    NTK_CHANNEL_DELETE = 0x41,   /* a channel, b force 0 or 1                           T S   */
+    NTK_CHANNEL_WAIT = 0x42,     /* a channel, b block 0 or 1, c limit, 0 for ever      T     */
+    NTK_CHANNEL_POST = 0x43,     /* a channel, b message, c 1 in front, 0 at the end    T I S */
+    NTK_CHANNEL_ABORT = 0x44,    /* a channel                                           T S   */
+    NTK_CHANNEL_FLUSH = 0x45,    /* a channel                                           T S   */
     NTK_INTERRUPT = 0x80         /* added to a kind: an interrupt makes the call              */
 };
 
 /* The tests of a wait for flags: what it asks of the flags of its mask. A wait that consumes turns over those that are as it asks. */
 enum ntk_test { NTK_ALL_SET = 0, NTK_ANY_SET = 1, NTK_ALL_CLEAR = 2, NTK_ANY_CLEAR = 3 };
 
-/* The numbers 0 and 1 of a call, by name: the quantum of a task, block, limit, force, consume, and what a post of flags does. */
+/* The numbers 0 and 1 of a call, by name: the quantum of a task, block, limit, force, consume, what a post of flags does, and where a post puts
+ * its message. */
 #define NTK_USE_DEFAULT 0u
 #define NTK_NO_BLOCK 0u
 #define NTK_MAY_BLOCK 1u
@@ -97,6 +106,8 @@ enum ntk_test { NTK_ALL_SET = 0, NTK_ANY_SET = 1, NTK_ALL_CLEAR = 2, NTK_ANY_CLE
 #define NTK_CONSUME 1u
 #define NTK_CLEAR 0u
 #define NTK_SET 1u
+#define NTK_AT_END 0u
+#define NTK_IN_FRONT 1u
 
 /* Answers. NTK_DONE and NTK_BLOCKS alone change the image. */
 enum ntk_answer {
@@ -105,8 +116,8 @@ enum ntk_answer {
     NTK_NOT_IN_USE = 2,      /* the number is not in use */
     NTK_IN_USE = 3,          /* create: the number is in use */
     NTK_BAD_VALUE = 4,       /* base above 62, a yes/no above 1, a delay of 0, a quantum above 65535, a default quantum of 0, a mask of 0,
-                              * a fifth test */
-    NTK_BY_INTERRUPT = 5,    /* not a tick, a semaphore post or a group post */
+                              * a fifth test, a capacity of 0 or above 32 */
+    NTK_BY_INTERRUPT = 5,    /* not a tick, a semaphore post, a group post or a channel post */
     NTK_NONE_RUNNING = 6,    /* the call wants a running task */
     NTK_WHILE_LOCKED = 7,    /* not while the scheduler is locked */
     NTK_NOTHING_TO_TAKE = 8, /* a non-blocking wait */
@@ -116,15 +127,18 @@ enum ntk_answer {
     NTK_NOTHING_TO_UNDO = 12,
     NTK_STILL_NEEDED = 13,   /* an object with waiters, or a task that holds a mutex */
     NTK_BLOCKS = 14,         /* the caller waits: run another task */
-    NTK_NOT_SOUND = 15       /* the image breaks a standing rule or has the wrong length: nothing may run */
+    NTK_NOT_SOUND = 15,      /* the image breaks a standing rule or has the wrong length: nothing may run */
+    NTK_CHANNEL_FULL = 16    /* channel post: it holds as many messages as its capacity */
 };
 
 /* The outcome of a task's last wait or delay; NTK_NO_SUCH_TASK for a number that is no task's. */
 enum ntk_wait { NTK_GIVEN = 0, NTK_TIMED_OUT = 1, NTK_ABORTED = 2, NTK_DELETED = 3, NTK_NO_SUCH_TASK = 255 };
 
-/* `runs` is the task to run, plus 1; 0 is none: ntk_task_of(o.runs) is its number. */
+/* `runs` is the task to run, plus 1; 0 is none: ntk_task_of(o.runs) is its number. `further` is how many messages a flush took; 0 for every
+ * other call and every refusal. */
 struct ntk_outcome {
-    uint32_t answer;
+    uint16_t answer;
+    uint16_t further;
     uint32_t runs;
 };
 
@@ -153,45 +167,54 @@ NTK_MUST_USE struct ntk_outcome ntk_serve(uint8_t kind, uint32_t a, uint32_t b, 
 /* Fields, for ntk_read: what each shows, and which numbers it has. The first digit says whose it is, as with the kinds of calls.
  * Where "none" may stand (a holder, the running task, a slot), a task is its number plus 1, and 0 is none. */
 enum ntk_field {
-    NTK_FIELD_TASK_IN_USE = 0x00,      /* 1 in use, 0 free; free, all its fields are 0     task 0..31      */
-    NTK_FIELD_TASK_BASE = 0x01,        /* base priority                                    task 0..31      */
-    NTK_FIELD_TASK_WORK = 0x02,        /* working priority                                 task 0..31      */
-    NTK_FIELD_TASK_SUSPEND = 0x03,     /* suspend count                                    task 0..31      */
-    NTK_FIELD_TASK_QUANTUM = 0x04,     /* quantum, 1 or more                               task 0..31      */
-    NTK_FIELD_TASK_LEFT = 0x05,        /* what is left of the quantum                      task 0..31      */
-    NTK_FIELD_TASK_STATE = 0x06,       /* enum ntk_state                                   task 0..31      */
-    NTK_FIELD_TASK_OBJECT = 0x07,      /* the object waited for; 0 where it waits for none task 0..31      */
-    NTK_FIELD_TASK_MARKED = 0x08,      /* 1 if it has a due mark, else 0                   task 0..31      */
-    NTK_FIELD_TASK_DUE = 0x09,         /* its due mark; 0 where it has none                task 0..31      */
-    NTK_FIELD_TASK_OUTCOME = 0x0A,     /* enum ntk_wait                                    task 0..31      */
-    NTK_FIELD_TASK_MASK = 0x0B,        /* the flags it waits for; 0 where for none         task 0..31      */
-    NTK_FIELD_TASK_TEST = 0x0C,        /* enum ntk_test; 0 where it waits for no flags     task 0..31      */
-    NTK_FIELD_TASK_CONSUME = 0x0D,     /* 1 if it consumes the flags it waits for, else 0  task 0..31      */
-    NTK_FIELD_SEMAPHORE_IN_USE = 0x10, /* 1 in use, 0 free                                 semaphore 0..15 */
-    NTK_FIELD_SEMAPHORE_COUNT = 0x11,  /* count                                            semaphore 0..15 */
-    NTK_FIELD_MUTEX_IN_USE = 0x20,     /* 1 in use, 0 free                                 mutex 0..15     */
-    NTK_FIELD_MUTEX_HOLDER = 0x21,     /* holder plus 1; 0 for none                        mutex 0..15     */
-    NTK_FIELD_MUTEX_NESTING = 0x22,    /* how many times over it is held                   mutex 0..15     */
-    NTK_FIELD_GROUP_IN_USE = 0x30,     /* 1 in use, 0 free                                 group 0..7      */
-    NTK_FIELD_GROUP_FLAGS = 0x31,      /* its flags, flag n in bit n                       group 0..7      */
-    NTK_FIELD_QUEUE_SLOT = 0xE0,       /* task plus 1; 0 for none                          NTK_SLOT(q, j)  */
-    NTK_FIELD_TICK = 0xF0,             /* tick counter                                     0               */
-    NTK_FIELD_DEPTH = 0xF1,            /* lock depth                                       0               */
-    NTK_FIELD_RUNNING = 0xF2,          /* running task plus 1; 0 for none                  0               */
-    NTK_FIELD_DEFAULT_QUANTUM = 0xF3   /* default quantum, 1 or more                       0               */
+    NTK_FIELD_TASK_IN_USE = 0x00,      /* 1 in use, 0 free; free, all its fields are 0     task 0..31        */
+    NTK_FIELD_TASK_BASE = 0x01,        /* base priority                                    task 0..31        */
+    NTK_FIELD_TASK_WORK = 0x02,        /* working priority                                 task 0..31        */
+    NTK_FIELD_TASK_SUSPEND = 0x03,     /* suspend count                                    task 0..31        */
+    NTK_FIELD_TASK_QUANTUM = 0x04,     /* quantum, 1 or more                               task 0..31        */
+    NTK_FIELD_TASK_LEFT = 0x05,        /* what is left of the quantum                      task 0..31        */
+    NTK_FIELD_TASK_STATE = 0x06,       /* enum ntk_state                                   task 0..31        */
+    NTK_FIELD_TASK_OBJECT = 0x07,      /* the object waited for; 0 where it waits for none task 0..31        */
+    NTK_FIELD_TASK_MARKED = 0x08,      /* 1 if it has a due mark, else 0                   task 0..31        */
+    NTK_FIELD_TASK_DUE = 0x09,         /* its due mark; 0 where it has none                task 0..31        */
+    NTK_FIELD_TASK_OUTCOME = 0x0A,     /* enum ntk_wait                                    task 0..31        */
+    NTK_FIELD_TASK_MASK = 0x0B,        /* the flags it waits for; 0 where for none         task 0..31        */
+    NTK_FIELD_TASK_TEST = 0x0C,        /* enum ntk_test; 0 where it waits for no flags     task 0..31        */
+    NTK_FIELD_TASK_CONSUME = 0x0D,     /* 1 if it consumes the flags it waits for, else 0  task 0..31        */
+    NTK_FIELD_TASK_MESSAGE = 0x0E,     /* the last message that it was given; 0 before     task 0..31        */
+    NTK_FIELD_SEMAPHORE_IN_USE = 0x10, /* 1 in use, 0 free                                 semaphore 0..15   */
+    NTK_FIELD_SEMAPHORE_COUNT = 0x11,  /* count                                            semaphore 0..15   */
+    NTK_FIELD_MUTEX_IN_USE = 0x20,     /* 1 in use, 0 free                                 mutex 0..15       */
+    NTK_FIELD_MUTEX_HOLDER = 0x21,     /* holder plus 1; 0 for none                        mutex 0..15       */
+    NTK_FIELD_MUTEX_NESTING = 0x22,    /* how many times over it is held                   mutex 0..15       */
+    NTK_FIELD_GROUP_IN_USE = 0x30,     /* 1 in use, 0 free                                 group 0..7        */
+    NTK_FIELD_GROUP_FLAGS = 0x31,      /* its flags, flag n in bit n                       group 0..7        */
+    NTK_FIELD_CHANNEL_USED = 0x40,     /* 1 in use, 0 free                                 channel 0..15     */
+    NTK_FIELD_CHANNEL_CAPACITY = 0x41, /* how many messages it has room for                channel 0..15     */
+    NTK_FIELD_CHANNEL_HELD = 0x42,     /* how many it holds                                channel 0..15     */
+    NTK_FIELD_QUEUE_SLOT = 0xE0,       /* task plus 1; 0 for none                          NTK_SLOT(q, j)    */
+    NTK_FIELD_MESSAGE = 0xE1,          /* a message; 0 where the channel holds none there  NTK_MESSAGE(c, j) */
+    NTK_FIELD_TICK = 0xF0,             /* tick counter                                     0                 */
+    NTK_FIELD_DEPTH = 0xF1,            /* lock depth                                       0                 */
+    NTK_FIELD_RUNNING = 0xF2,          /* running task plus 1; 0 for none                  0                 */
+    NTK_FIELD_DEFAULT_QUANTUM = 0xF3   /* default quantum, 1 or more                       0                 */
 };
 
 /* The states of a task. */
-enum ntk_state { NTK_PLAIN = 0, NTK_DELAYED = 1, NTK_WAITS_SEMAPHORE = 2, NTK_WAITS_MUTEX = 3, NTK_WAITS_FLAGS = 4 };
+enum ntk_state { NTK_PLAIN = 0, NTK_DELAYED = 1, NTK_WAITS_SEMAPHORE = 2, NTK_WAITS_MUTEX = 3, NTK_WAITS_FLAGS = 4, NTK_WAITS_MESSAGE = 5 };
 
-/* Queues: the able tasks, and the waiters of each semaphore, of each mutex and of each group, the most urgent first. */
+/* Queues: the able tasks, and the waiters of each semaphore, of each mutex, of each group and of each channel, the most urgent first. */
 #define NTK_ABLE_QUEUE 0
 #define NTK_SEMAPHORE_QUEUE(s) (1 + (s))
 #define NTK_MUTEX_QUEUE(m) (17 + (m))
 #define NTK_GROUP_QUEUE(g) (33 + (g))
+#define NTK_CHANNEL_QUEUE(c) (41 + (c))
 
-/* The number of slot j, 0..31, of queue q, 0..40, where slot 0 is the front. */
+/* The number of slot j, 0..31, of queue q, 0..56, where slot 0 is the front. */
 #define NTK_SLOT(q, j) (NTK_TASKS * (q) + (j))
+
+/* The number of message j, 0..31, of channel c, where message 0 is the next one that is taken. */
+#define NTK_MESSAGE(c, j) (NTK_MOST_MESSAGES * (c) + (j))
 
 /* What no field shows: a field has 32 bits. */
 #define NTK_NO_FIELD UINT64_MAX
@@ -211,7 +234,7 @@ enum ntk_rule {
     NTK_RULE_TASK_SUSPEND = 0x04,       /* suspend count 0..250                          task 0..31        */
     NTK_RULE_TASK_QUANTUM = 0x05,       /* quantum 0..65535; no bytes break it           task 0..31        */
     NTK_RULE_TASK_LEFT = 0x06,          /* what is left 0..65535; no bytes break it      task 0..31        */
-    NTK_RULE_TASK_STATE = 0x07,         /* state 0..4                                    task 0..31        */
+    NTK_RULE_TASK_STATE = 0x07,         /* state 0..5                                    task 0..31        */
     NTK_RULE_TASK_OBJECT = 0x08,        /* object of its kind; 0 where it waits for none task 0..31        */
     NTK_RULE_TASK_MARKED = 0x09,        /* has a mark is 0 or 1                          task 0..31        */
     NTK_RULE_TASK_DUE = 0x0A,           /* due mark 0 where it has none                  task 0..31        */
@@ -219,6 +242,7 @@ enum ntk_rule {
     NTK_RULE_TASK_MASK = 0x0C,          /* mask 0 where it waits for no flags            task 0..31        */
     NTK_RULE_TASK_TEST = 0x0D,          /* test 0..3; 0 where it waits for no flags      task 0..31        */
     NTK_RULE_TASK_CONSUME = 0x0E,       /* consume 0 or 1; 0 where it waits for no flags task 0..31        */
+    NTK_RULE_TASK_MESSAGE = 0x0F,       /* message 0..4294967295; no bytes break it      task 0..31        */
     NTK_RULE_TASK_FREE = 0x10,          /* free, its fields are 0                        task 0..31        */
     NTK_RULE_TASK_PLAIN_MARK = 0x11,    /* plain, it has no due mark                     task 0..31        */
     NTK_RULE_TASK_DELAY_MARK = 0x12,    /* delayed, it has a due mark                    task 0..31        */
@@ -237,6 +261,13 @@ enum ntk_rule {
     NTK_RULE_GROUP_USED = 0x40,         /* in use is 0 or 1                              group 0..7        */
     NTK_RULE_GROUP_FLAGS = 0x41,        /* flags 0..4294967295; no bytes break it        group 0..7        */
     NTK_RULE_GROUP_FREE = 0x42,         /* free, its fields are 0                        group 0..7        */
+    NTK_RULE_CHANNEL_USED = 0x50,       /* in use is 0 or 1                              channel 0..15     */
+    NTK_RULE_CHANNEL_CAPACITY = 0x51,   /* capacity 0..32                                channel 0..15     */
+    NTK_RULE_CHANNEL_HELD = 0x52,       /* it holds at most its capacity                 channel 0..15     */
+    NTK_RULE_CHANNEL_FREE = 0x53,       /* free, its fields are 0                        channel 0..15     */
+    NTK_RULE_CHANNEL_ROOM = 0x54,       /* in use, its capacity is not 0                 channel 0..15     */
+    NTK_RULE_MESSAGE_RANGE = 0x55,      /* message 0..4294967295; no bytes break it      NTK_MESSAGE(c, j) */
+    NTK_RULE_MESSAGE_UNUSED = 0x56,     /* 0 where the channel holds no message there    NTK_MESSAGE(c, j) */
     NTK_RULE_WAIT_USED = 0x80,          /* what it waits for is in use                   task 0..31        */
     NTK_RULE_WAIT_NOTHING = 0x81,       /* what it waits for has nothing to take         task 0..31        */
     NTK_RULE_WAIT_APART = 0x82,         /* it does not hold what it waits for            task 0..31        */
@@ -259,6 +290,10 @@ enum ntk_rule {
 /* The queue, and the slot or task, that the number of a rule on the queues names: the other way from NTK_SLOT. */
 #define NTK_QUEUE_AT(number) ((number) / NTK_TASKS)
 #define NTK_SLOT_AT(number) ((number) % NTK_TASKS)
+
+/* The channel, and which of its messages, that the number of a rule on messages names: the other way from NTK_MESSAGE. */
+#define NTK_CHANNEL_AT(number) ((number) / NTK_MOST_MESSAGES)
+#define NTK_MESSAGE_AT(number) ((number) % NTK_MOST_MESSAGES)
 
 /* `rule` is the first standing rule that is broken, `number` the first record that breaks it; 0 and 0 where the table is sound. */
 struct ntk_reason {
@@ -305,6 +340,13 @@ static inline uint64_t ntk_flags_of(const uint8_t *image, uint32_t group)
     return ntk_read(NTK_FIELD_GROUP_FLAGS, group, image, NTK_IMAGE_SIZE);
 }
 
+/* The message in a task's record: the last that it was given, 0 before the first. It stays where a later wait brings none: ntk_wait_of tells
+ * whether one did. NTK_NO_FIELD for a number that is no task's. */
+static inline uint64_t ntk_message_of(const uint8_t *image, uint32_t task)
+{
+    return ntk_read(NTK_FIELD_TASK_MESSAGE, task, image, NTK_IMAGE_SIZE);
+}
+
 /* The running task, plus 1; 0 for none. */
 static inline uint32_t ntk_running(const uint8_t *image)
 {
@@ -348,6 +390,7 @@ static inline const char *ntk_answer_name(uint32_t answer)
     case NTK_STILL_NEEDED: return "still needed";
     case NTK_BLOCKS: return "blocks";
     case NTK_NOT_SOUND: return "not sound";
+    case NTK_CHANNEL_FULL: return "channel full";
     default: return "unknown";
     }
 }
@@ -363,7 +406,7 @@ static inline const char *ntk_rule_name(uint32_t rule)
     case NTK_RULE_TASK_SUSPEND: return "suspend count above 250";
     case NTK_RULE_TASK_QUANTUM: return "quantum above 65535";
     case NTK_RULE_TASK_LEFT: return "what is left of the quantum above 65535";
-    case NTK_RULE_TASK_STATE: return "state above 4";
+    case NTK_RULE_TASK_STATE: return "state above 5";
     case NTK_RULE_TASK_OBJECT: return "object that its state does not have";
     case NTK_RULE_TASK_MARKED: return "has a due mark is neither 0 nor 1";
     case NTK_RULE_TASK_DUE: return "due mark where it has none";
@@ -371,6 +414,7 @@ static inline const char *ntk_rule_name(uint32_t rule)
     case NTK_RULE_TASK_MASK: return "mask where it waits for no flags";
     case NTK_RULE_TASK_TEST: return "test above 3, or one where it waits for no flags";
     case NTK_RULE_TASK_CONSUME: return "consume above 1, or 1 where it waits for no flags";
+    case NTK_RULE_TASK_MESSAGE: return "message above 4294967295";
     case NTK_RULE_TASK_FREE: return "free, and not all of its fields are 0";
     case NTK_RULE_TASK_PLAIN_MARK: return "plain, and it has a due mark";
     case NTK_RULE_TASK_DELAY_MARK: return "delayed, and it has no due mark";
@@ -389,6 +433,13 @@ static inline const char *ntk_rule_name(uint32_t rule)
     case NTK_RULE_GROUP_USED: return "in use is neither 0 nor 1";
     case NTK_RULE_GROUP_FLAGS: return "flags above 4294967295";
     case NTK_RULE_GROUP_FREE: return "free, and not all of its fields are 0";
+    case NTK_RULE_CHANNEL_USED: return "in use is neither 0 nor 1";
+    case NTK_RULE_CHANNEL_CAPACITY: return "capacity above 32";
+    case NTK_RULE_CHANNEL_HELD: return "holds more messages than its capacity";
+    case NTK_RULE_CHANNEL_FREE: return "free, and not all of its fields are 0";
+    case NTK_RULE_CHANNEL_ROOM: return "in use with a capacity of 0";
+    case NTK_RULE_MESSAGE_RANGE: return "message above 4294967295";
+    case NTK_RULE_MESSAGE_UNUSED: return "message where its channel holds none";
     case NTK_RULE_WAIT_USED: return "waits for an object that is not in use";
     case NTK_RULE_WAIT_NOTHING: return "waits for an object that has something to take";
     case NTK_RULE_WAIT_APART: return "waits for the mutex that it holds";
@@ -566,6 +617,41 @@ NTK_MUST_USE static inline struct ntk_outcome ntk_group_post_isr(uint8_t *image,
 NTK_MUST_USE static inline struct ntk_outcome ntk_group_abort(uint8_t *image, uint32_t group)
 {
     return NTK_CALL(NTK_GROUP_ABORT, group, 0, 0, 0, 0, 0, image, NTK_IMAGE_SIZE);
+}
+
+NTK_MUST_USE static inline struct ntk_outcome ntk_channel_create(uint8_t *image, uint32_t channel, uint32_t capacity)
+{
+    return NTK_CALL(NTK_CHANNEL_CREATE, channel, capacity, 0, 0, 0, 0, image, NTK_IMAGE_SIZE);
+}
+
+NTK_MUST_USE static inline struct ntk_outcome ntk_channel_delete(uint8_t *image, uint32_t channel, uint32_t force)
+{
+    return NTK_CALL(NTK_CHANNEL_DELETE, channel, force, 0, 0, 0, 0, image, NTK_IMAGE_SIZE);
+}
+
+NTK_MUST_USE static inline struct ntk_outcome ntk_channel_wait(uint8_t *image, uint32_t channel, uint32_t block, uint32_t limit)
+{
+    return NTK_CALL(NTK_CHANNEL_WAIT, channel, block, limit, 0, 0, 0, image, NTK_IMAGE_SIZE);
+}
+
+NTK_MUST_USE static inline struct ntk_outcome ntk_channel_post(uint8_t *image, uint32_t channel, uint32_t message, uint32_t front)
+{
+    return NTK_CALL(NTK_CHANNEL_POST, channel, message, front, 0, 0, 0, image, NTK_IMAGE_SIZE);
+}
+
+NTK_MUST_USE static inline struct ntk_outcome ntk_channel_post_isr(uint8_t *image, uint32_t channel, uint32_t message, uint32_t front)
+{
+    return NTK_CALL(NTK_CHANNEL_POST | NTK_INTERRUPT, channel, message, front, 0, 0, 0, image, NTK_IMAGE_SIZE);
+}
+
+NTK_MUST_USE static inline struct ntk_outcome ntk_channel_abort(uint8_t *image, uint32_t channel)
+{
+    return NTK_CALL(NTK_CHANNEL_ABORT, channel, 0, 0, 0, 0, 0, image, NTK_IMAGE_SIZE);
+}
+
+NTK_MUST_USE static inline struct ntk_outcome ntk_channel_flush(uint8_t *image, uint32_t channel)
+{
+    return NTK_CALL(NTK_CHANNEL_FLUSH, channel, 0, 0, 0, 0, 0, image, NTK_IMAGE_SIZE);
 }
 
 #ifdef __cplusplus

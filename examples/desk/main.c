@@ -107,6 +107,62 @@ static void film_house(void)
         call("tick", NTK_TICK | NTK_INTERRUPT, 0, 0, 0);
 }
 
+enum { READER = 8, DECODER = 9, NEXT_FRAMES = 3 }; /* two tasks, and a channel */
+
+static void reader_posts(uint32_t frame)
+{
+    char what[32];
+
+    snprintf(what, sizeof what, "reader posts frame %u", (unsigned)frame);
+    call(what, NTK_CHANNEL_POST, NEXT_FRAMES, frame, NTK_AT_END);
+}
+
+static void decoder_waits(void)
+{
+    call("decoder waits for a frame", NTK_CHANNEL_WAIT, NEXT_FRAMES, NTK_MAY_BLOCK, NTK_FOREVER);
+}
+
+static void tell_frame(void)
+{
+    printf("  the decoder has frame %u\n", (unsigned)ntk_message_of(table, DECODER));
+}
+
+static void reader_flushes(void)
+{
+    struct ntk_outcome o = ntk_channel_flush(table, NEXT_FRAMES);
+
+    tell("reader flushes the channel", o);
+    printf("  frames that went: %u\n", (unsigned)o.further);
+}
+
+/* The reader hands the decoder the numbers of frames through a channel, a message queue, with room for two. A third is refused, and nothing is
+ * overwritten. Posted again while the decoder waits, it goes to the decoder directly. What nobody has taken is flushed. */
+static void frame_numbers(void)
+{
+    puts("the reader's frames:");
+    ntk_fresh(table, sizeof table);
+    call("create the channel, room for 2", NTK_CHANNEL_CREATE, NEXT_FRAMES, 2, 0);
+    call("create the decoder, base 30", NTK_TASK_CREATE, DECODER, 30, 0);
+    call("create the reader, base 20", NTK_TASK_CREATE, READER, 20, 0);
+    reader_posts(1);
+    reader_posts(2);
+    reader_posts(3);
+    call("reader sleeps 1 tick", NTK_DELAY, 1, 0, 0);
+    decoder_waits();
+    tell_frame();
+    decoder_waits();
+    tell_frame();
+    decoder_waits();
+    printf("  the first waiter, plus 1: %u\n", (unsigned)ntk_slot_of(table, NTK_CHANNEL_QUEUE(NEXT_FRAMES), 0));
+    call("tick", NTK_TICK | NTK_INTERRUPT, 0, 0, 0);
+    reader_posts(3);
+    tell_frame();
+    reader_posts(4);
+    reader_posts(5);
+    reader_flushes();
+    reader_flushes();
+}
+
 int main(void)
 {
     ntk_fresh(table, sizeof table);
@@ -114,5 +170,6 @@ int main(void)
     two_mutexes();
     card_and_clock();
     film_house();
+    frame_numbers();
     return 0;
 }

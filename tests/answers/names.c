@@ -7,7 +7,7 @@ int main(void)
 {
     unsigned i;
 
-    for (i = 0; i <= NTK_NOT_SOUND + 1u; i++)
+    for (i = 0; i <= NTK_CHANNEL_FULL + 1u; i++)
         printf("%u %s\n", i, ntk_answer_name(i));
     return 0;
 }

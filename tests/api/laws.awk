@@ -66,15 +66,20 @@ function add_row(relation, text, result,    count, condition, i, told, call) {
 
 FILENAME ~ /Sizes/ && /^[a-zA-Z]+ = [0-9]+$/ { number[$1] = $3 }
 
-# ---- Kinds: the byte of each call, and whether an interrupt may make it
+# ---- Kinds: the byte of each call, and whether an interrupt may make it. A byte may have a name.
 
-FILENAME ~ /Kinds/ && /(byTasks|byAll) 0x/ {
+FILENAME ~ /Kinds/ && /^[a-zA-Z]+ = 0x[0-9A-F][0-9A-F]$/ { named_byte[$1] = $3 }
+FILENAME ~ /Kinds/ && /^ .*by(Tasks|All) .*λ n\. / {
     call = $0
     sub(/.*λ n\. /, "", call)
     sub(/[ )].*/, "", call)
-    match($0, /0x[0-9A-F]+/)
-    byte[call] = substr($0, RSTART + 2, RLENGTH - 2)
-    interrupts[call] = /byAll 0x/
+    spelled = $0
+    sub(/.*by(Tasks|All) /, "", spelled)
+    sub(/ .*/, "", spelled)
+    if (spelled in named_byte) spelled = named_byte[spelled]
+    if (spelled !~ /^0x[0-9A-F][0-9A-F]$/) refuse("a kind without a byte: " spelled)
+    byte[call] = substr(spelled, 3)
+    interrupts[call] = /byAll /
 }
 
 # ---- Numbers: the order, the relations, the rows
@@ -115,7 +120,7 @@ FILENAME ~ /Numbers/ && relation != "" && relation != "Thing" && /^  [^-]/ {
 
 END {
     if (failed) exit 1
-    if (ranks != 16 || rows == 0) {
+    if (ranks != 17 || rows == 0) {
         print "laws.awk: " ranks " numbers in the order and " rows " rows" >"/dev/stderr"
         exit 1
     }

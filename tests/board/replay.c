@@ -3,7 +3,7 @@
  *
  * Of each image the record has, with all numbers of four bytes but the hashes, the least significant byte first: its length, its bytes, a
  * byte that is 1 where it is sound, how many calls are made on it, and of each call the kind in one byte, its six numbers, the answer, the task
- * to run, and the hash of the image behind it, of eight bytes. */
+ * to run, what is told further, and the hash of the image behind it, of eight bytes. */
 #include <stdio.h>
 #include <stdlib.h>
 #include <string.h>
@@ -67,17 +67,17 @@ static struct lent lend(const uint8_t *bytes, size_t length, size_t shift)
 static void one_call(const struct lent *step, const struct lent *serve, size_t length)
 {
     uint8_t kind = (uint8_t)number(1);
-    uint32_t n[8];
+    uint32_t n[9];
     struct ntk_outcome o;
     uint64_t after;
     size_t i;
 
-    for (i = 0; i < 8; i++)
+    for (i = 0; i < 9; i++)
         n[i] = (uint32_t)number(4);
     after = number(8);
     calls++;
     o = ntk_step(kind, n[0], n[1], n[2], n[3], n[4], n[5], step->image, length);
-    if (o.answer != n[6] || o.runs != n[7])
+    if (o.answer != n[6] || o.runs != n[7] || o.further != n[8])
         fail("ntk_step has another outcome");
     if (hash(step->image, length) != after)
         fail("ntk_step leaves other bytes");
@@ -85,7 +85,7 @@ static void one_call(const struct lent *step, const struct lent *serve, size_t l
         return;
     served++;
     o = ntk_serve(kind, n[0], n[1], n[2], n[3], n[4], n[5], serve->image, length);
-    if (o.answer != n[6] || o.runs != n[7])
+    if (o.answer != n[6] || o.runs != n[7] || o.further != n[8])
         fail("ntk_serve has another outcome");
     if (memcmp(step->image, serve->image, length) != 0)
         fail("ntk_serve leaves other bytes");

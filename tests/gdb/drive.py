@@ -1,4 +1,4 @@
-"""Halts the example port on the desk at four places and prints its table, and then what a broken table and a wrong word give. tests/gdb/run
+"""Halts the example port on the desk at six places and prints its table, and then what a broken table and a wrong word give. tests/gdb/run
 starts it behind tools/gdb/nonthachak.py, whose COLUMNS it knows, and compares what it writes to the file that NONTHACHAK_OUT names."""
 
 import os
@@ -42,9 +42,15 @@ with open(os.environ["NONTHACHAK_OUT"], "w") as out:
     show("the loop's end, after two ticks")
     go_to("ntk_flags_of")
     show("the reader waits for card and clock, the clock has come")
+    go_to("ntk_message_of")
+    show("the decoder has taken one of two frames, the reader sleeps")
+    go_to("ntk_slot_of")
+    show("the decoder has taken both, and waits for the next")
 
     # A semaphore with a count, one whose waiter is no task; a task that waits for what nobody knows, one without a quantum, one that is free
-    # and suspended; a mutex that is free and has a waiter; a gap in the able queue; no default quantum; one running that is no task.
+    # and suspended; a mutex that is free and has a waiter; a gap in the able queue; no default quantum; one running that is no task. A channel that
+    # holds more than its capacity, and has a waiter; a free one with too great a capacity; one without any; one with a message behind those that
+    # it holds; a free one with a waiter.
     poke("semaphore used", 3, 1)
     poke("semaphore count", 3, 0x04030201)
     poke("semaphore used", 15, 1)
@@ -55,9 +61,18 @@ with open(os.environ["NONTHACHAK_OUT"], "w") as out:
     poke("task marked", 8, 1)
     poke("task due", 8, 4294967295)
     poke("task outcome", 8, 7)
-    poke("task used", 9, 1)
+    poke("task used", 10, 1)
     poke("task suspend", 31, 250)
     poke("queue", 17, 1)
+    poke("channel held", 3, 3)
+    poke("channel messages", 3, 7)
+    poke("channel capacity", 5, 40)
+    poke("channel used", 6, 1)
+    poke("channel used", 7, 1)
+    poke("channel capacity", 7, 2)
+    poke("channel held", 7, 1)
+    poke("channel messages", 7, 4294967295 | 9 << 64)
+    poke("queue", 41 + 15, 2)
     poke("queue", 0, 32 << 8)
     poke("tick", 0, 0x01020304)
     poke("default quantum", 0, 0)

@@ -7,7 +7,7 @@
 #include "nonthachak.h"
 
 static uint8_t by_function[NTK_IMAGE_SIZE + 1], by_step[NTK_IMAGE_SIZE];
-static unsigned long compared, wrong;
+static unsigned long compared, wrong, flushed;
 
 static void expect(const char *what, uint32_t number, uint64_t want, uint64_t got)
 {
@@ -57,12 +57,19 @@ static struct service services[] = {
     {NTK_GROUP_POST, {3, 8, 3}, 0},
     {NTK_GROUP_POST | NTK_INTERRUPT, {3, 8, 3}, 0},
     {NTK_GROUP_ABORT, {3}, 0},
+    {NTK_CHANNEL_CREATE, {3, 4}, 0},
+    {NTK_CHANNEL_DELETE, {3, 3}, 0},
+    {NTK_CHANNEL_WAIT, {3, 3, 20}, 0},
+    {NTK_CHANNEL_POST, {3, 8, 3}, 0},
+    {NTK_CHANNEL_POST | NTK_INTERRUPT, {3, 8, 3}, 0},
+    {NTK_CHANNEL_ABORT, {3}, 0},
+    {NTK_CHANNEL_FLUSH, {3}, 0},
 };
 #define SERVICES (sizeof services / sizeof services[0])
 
 static struct ntk_outcome call(uint8_t kind, const uint32_t *n, uint8_t *image)
 {
-    struct ntk_outcome unknown = {99, 99};
+    struct ntk_outcome unknown = {99, 99, 99};
 
     switch (kind) {
     case NTK_TASK_CREATE: return ntk_task_create(image, n[0], n[1], n[2]);
@@ -95,6 +102,13 @@ static struct ntk_outcome call(uint8_t kind, const uint32_t *n, uint8_t *image)
     case NTK_GROUP_POST: return ntk_group_post(image, n[0], n[1], n[2]);
     case NTK_GROUP_POST | NTK_INTERRUPT: return ntk_group_post_isr(image, n[0], n[1], n[2]);
     case NTK_GROUP_ABORT: return ntk_group_abort(image, n[0]);
+    case NTK_CHANNEL_CREATE: return ntk_channel_create(image, n[0], n[1]);
+    case NTK_CHANNEL_DELETE: return ntk_channel_delete(image, n[0], n[1]);
+    case NTK_CHANNEL_WAIT: return ntk_channel_wait(image, n[0], n[1], n[2]);
+    case NTK_CHANNEL_POST: return ntk_channel_post(image, n[0], n[1], n[2]);
+    case NTK_CHANNEL_POST | NTK_INTERRUPT: return ntk_channel_post_isr(image, n[0], n[1], n[2]);
+    case NTK_CHANNEL_ABORT: return ntk_channel_abort(image, n[0]);
+    case NTK_CHANNEL_FLUSH: return ntk_channel_flush(image, n[0]);
     default: return unknown;
     }
 }
@@ -124,8 +138,10 @@ static void call_both(struct service *s)
     o = ntk_step(s->kind, n[0], n[1], n[2], n[3], n[4], n[5], by_step, NTK_IMAGE_SIZE);
     expect("the answer of kind", s->kind, o.answer, f.answer);
     expect("who runs after kind", s->kind, o.runs, f.runs);
+    expect("what is told further by kind", s->kind, s->kind == NTK_CHANNEL_FLUSH ? o.further : 0, f.further);
     expect("images that differ after kind", s->kind, 0, memcmp(image, by_step, NTK_IMAGE_SIZE) != 0);
     s->changed += o.answer == NTK_DONE || o.answer == NTK_BLOCKS;
+    flushed += o.further;
 }
 
 /* The next service. What leaves few tasks to run, and so few calls that are accepted, comes more seldom. */
@@ -152,6 +168,8 @@ static void call_all(void)
     for (i = 0; i < SERVICES; i++)
         if (services[i].changed < 20)
             expect("calls that changed the table, 20 and more, of kind", services[i].kind, 20, services[i].changed);
+    if (flushed < 20)
+        expect("messages that were flushed, 20 and more,", 0, 20, flushed);
 }
 
 /* ---- the fresh image */
@@ -209,10 +227,10 @@ static void name_answers(void)
 {
     uint32_t i, j;
 
-    for (i = 0; i <= NTK_NOT_SOUND; i++)
-        for (j = 0; j <= NTK_NOT_SOUND + 1; j++)
+    for (i = 0; i <= NTK_CHANNEL_FULL; i++)
+        for (j = 0; j <= NTK_CHANNEL_FULL + 1; j++)
             expect("the same name as another, answer", i, i == j, strcmp(ntk_answer_name(i), ntk_answer_name(j)) == 0);
-    expect("a name of no answer", 16, 0, strcmp(ntk_answer_name(16), "unknown") != 0);
+    expect("a name of no answer", 17, 0, strcmp(ntk_answer_name(17), "unknown") != 0);
     expect("a name of no answer", 4294967295u, 0, strcmp(ntk_answer_name(4294967295u), "unknown") != 0);
 }
 

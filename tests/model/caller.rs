@@ -1,8 +1,20 @@
 //! Random calls, biased to where the paper's rules meet.
+mod messages;
+
 use crate::kernel::kinds::{body, KINDS};
 use crate::kernel::{Call, Kernel, State, Task, Wanted, GROUPS, NUMBERS, OBJECTS, TASKS};
 use crate::random::Random;
 use crate::tables::some_wanted;
+use messages::another_message;
+
+/// What a sequence likes to do.
+#[derive(Clone, Copy, PartialEq, Eq)]
+enum Likes {
+    Anything,
+    Chains,
+    Flags,
+    Messages,
+}
 
 /// Which numbers a sequence uses and what it likes to do: few numbers and levels meet more often.
 pub struct Caller {
@@ -10,11 +22,11 @@ pub struct Caller {
     semaphores: usize,
     mutexes: usize,
     groups: usize,
+    channels: usize,
     levels: Vec<u32>,
     guided: usize,
     locks: usize,
-    deep: bool,
-    flags: bool,
+    likes: Likes,
     again: Option<(Call, usize)>,
 }
 
@@ -29,18 +41,23 @@ fn wait_for_flags(g: usize, block: u32, limit: u32, wanted: Wanted) -> Call {
 
 impl Caller {
     pub fn new(random: &mut Random) -> Caller {
-        let deep = random.chance(15);
-        let flags = !deep && random.chance(20);
+        let likes = match random.below(20) {
+            0..=2 => Likes::Chains,
+            3..=5 => Likes::Flags,
+            6..=9 => Likes::Messages,
+            _ => Likes::Anything,
+        };
+        let deep = likes == Likes::Chains;
         Caller {
-            tasks: if deep || flags { TASKS } else { random.pick(&[3, 5, 8, 20, TASKS]) },
+            tasks: if likes == Likes::Anything { random.pick(&[3, 5, 8, 20, TASKS]) } else { TASKS },
             semaphores: random.pick(&[1, 2, OBJECTS]),
             mutexes: if deep { OBJECTS } else { random.pick(&[2, 3, 6, OBJECTS]) },
             groups: random.pick(&[1, 2, GROUPS]),
+            channels: random.pick(&[1, 2, OBJECTS]),
             levels: (0..random.between(1, 6)).map(|_| random.pick(&[0, 1, 5, 5, 7, 10, 30, 62])).collect(),
             guided: if deep { 97 } else { random.pick(&[30, 60, 90]) },
             locks: random.pick(&[0, 1, 5]),
-            deep,
-            flags,
+            likes,
             again: None,
         }
     }
@@ -49,7 +66,7 @@ impl Caller {
     pub fn next(&mut self, random: &mut Random, kernel: &Kernel) -> Call {
         if let Some((call, times)) = self.again {
             self.again = if times > 1 { Some((call, times - 1)) } else { None };
-            return call;
+            return if call.kind & 0x7F == 0x43 { another_message(call, random) } else { call };
         }
         let mut chosen = if random.chance(2) {
             self.wild(random)
@@ -61,7 +78,7 @@ impl Caller {
         if random.chance(1) {
             chosen.kind ^= 0x80;
         }
-        if matches!(chosen.kind, 0x0B | 0x13 | 0x33) && random.chance(50) {
+        if matches!(chosen.kind, 0x0B | 0x13 | 0x33 | 0x43) && random.chance(50) {
             chosen.kind |= 0x80;
         }
         // "those a kind does not use are not looked at"
@@ -98,7 +115,7 @@ impl Caller {
         let g = random.below(self.groups);
         let yes_no = self.yes_no(random);
         let limit = self.limit(random);
-        match random.below(32) {
+        match random.below(41) {
             0 | 1 => call(0x01, t, self.level(random), random.pick(&[0, 1, 2, 3, 65535])),
             2 => call(0x02, t, 0, 0),
             3 => call(0x03, t, self.level(random), 0),
@@ -125,7 +142,8 @@ impl Caller {
             26 | 27 => odd_flags(wait_for_flags(g, yes_no, limit, some_wanted(random)), random),
             28 | 29 => odd_flags(call(0x33, g, random.mask(), yes_no), random),
             30 => call(0x0D, random.pick(&[0, 1, 1, 2, 3, 100, 65535, 65536, 65537]), 0, 0),
-            _ => call(0x34, g, 0, 0),
+            31 => call(0x34, g, 0, 0),
+            _ => self.plain_message(random),
         }
     }
 
@@ -133,43 +151,52 @@ impl Caller {
     fn guided(&mut self, random: &mut Random, kernel: &Kernel) -> Call {
         let found = match (kernel.depth, kernel.running) {
             (1.., _) if random.chance(25) => Some(call(0x0A, 0, 0, 0)),
-            (_, None) if self.flags && random.chance(50) => self.post_flags(random, kernel),
+            (_, None) if self.likes == Likes::Flags && random.chance(50) => self.post_flags(random, kernel),
+            (_, None) if self.likes == Likes::Messages && random.chance(50) => self.post_message(random, kernel),
             (_, None) => self.wake(random, kernel),
-            (_, Some(_)) if self.flags && random.chance(75) => match random.below(10) {
+            (_, Some(_)) if self.likes == Likes::Flags && random.chance(75) => match random.below(10) {
                 0..=4 => self.wait_flags(random, kernel),
                 5 | 6 => self.post_flags(random, kernel),
                 7 => self.reshape(random, kernel),
                 _ => self.grow(random, kernel),
             },
-            (_, Some(runs)) if self.deep && random.chance(80) => {
+            (_, Some(_)) if self.likes == Likes::Messages && random.chance(75) => self.pass_messages(random, kernel),
+            (_, Some(runs)) if self.likes == Likes::Chains && random.chance(80) => {
                 if random.chance(60) { self.link(random, kernel, runs) } else { self.grow(random, kernel) }
             }
-            (_, Some(runs)) => match random.below(24) {
-                0..=6 => self.link(random, kernel, runs),
-                7 | 8 => self.grow(random, kernel),
-                9 => self.reshape(random, kernel),
-                10 | 11 => self.release(random, kernel, runs),
-                12 => self.suspend_waiter(random, kernel),
-                13 => self.force(random, kernel),
-                14 => self.repeat(random, kernel, runs),
-                15 => Some(call(0x12, random.below(self.semaphores), 1, self.limit(random))),
-                16 => Some(call(0x06, 0, 0, 0)),
-                17 => self.wake(random, kernel),
-                18 => Some(call(0x07, random.soon() as usize, 0, 0)),
-                19 | 20 => self.wait_flags(random, kernel),
-                21 => self.post_flags(random, kernel),
-                22 => Some(call(0x0D, random.between(1, 3), 0, 0)),
-                _ => Some(call(0x0B, 0, 0, 0)),
-            },
+            (_, Some(runs)) => self.any(random, kernel, runs),
         };
         found.unwrap_or_else(|| self.plain(random))
     }
 
+    /// Something of everything.
+    fn any(&mut self, random: &mut Random, kernel: &Kernel, runs: usize) -> Option<Call> {
+        match random.below(29) {
+            0..=6 => self.link(random, kernel, runs),
+            7 | 8 => self.grow(random, kernel),
+            9 => self.reshape(random, kernel),
+            10 | 11 => self.release(random, kernel, runs),
+            12 => self.suspend_waiter(random, kernel),
+            13 | 14 => self.force(random, kernel),
+            15 => self.repeat(random, kernel, runs),
+            16 => Some(call(0x12, random.below(self.semaphores), 1, self.limit(random))),
+            17 => Some(call(0x06, 0, 0, 0)),
+            18 => self.wake(random, kernel),
+            19 => Some(call(0x07, random.soon() as usize, 0, 0)),
+            20 | 21 => self.wait_flags(random, kernel),
+            22 => self.post_flags(random, kernel),
+            23 => Some(call(0x0D, random.between(1, 3), 0, 0)),
+            24..=27 => self.pass_messages(random, kernel),
+            _ => Some(call(0x0B, 0, 0, 0)),
+        }
+    }
+
     /// Takes a free mutex, or waits for one that makes the chain longer or a ring.
     fn link(&mut self, random: &mut Random, kernel: &Kernel, runs: usize) -> Option<Call> {
-        let limit = if self.deep || random.chance(70) { 0 } else { random.soon() };
+        let deep = self.likes == Likes::Chains;
+        let limit = if deep || random.chance(70) { 0 } else { random.soon() };
         let free = random.pick_from((0..self.mutexes).filter(|&m| kernel.mutexes[m].used && kernel.mutexes[m].holder.is_none()));
-        if free.is_some() && (!kernel.holds_any(runs) || random.chance(if self.deep { 3 } else { 25 })) {
+        if free.is_some() && (!kernel.holds_any(runs) || random.chance(if deep { 3 } else { 25 })) {
             return free.map(|m| call(0x22, m, 1, limit));
         }
         let others: Vec<(usize, usize)> = (0..OBJECTS)
@@ -180,7 +207,7 @@ impl Caller {
             return None;
         }
         let ring = others.iter().copied().filter(|&(_, holder)| kernel.leads(holder, runs));
-        let way = if self.deep && random.chance(90) { 1 } else { random.below(3) };
+        let way = if deep && random.chance(90) { 1 } else { random.below(3) };
         let chosen = match way {
             0 => random.pick_from(ring).unwrap_or_else(|| random.pick(&others)),
             1 => others.iter().copied().max_by_key(|&(_, holder)| kernel.chain(holder).len()).unwrap(),
@@ -195,10 +222,12 @@ impl Caller {
         let m = random.pick_from((0..self.mutexes).filter(|&m| !kernel.mutexes[m].used));
         let s = random.pick_from((0..self.semaphores).filter(|&s| !kernel.semaphores[s].used));
         let g = random.pick_from((0..self.groups).filter(|&g| !kernel.groups[g].used));
-        match random.below(6) {
-            0 | 1 => t.map(|t| call(0x01, t, self.level(random), random.pick(&[0, 1, 2]))),
-            2 | 3 if !self.flags => m.map(|m| call(0x20, m, 0, 0)),
-            2..=4 => g.map(|g| call(0x30, g, if random.chance(70) { 0 } else { random.mask() }, 0)),
+        let c = random.pick_from((0..self.channels).filter(|&c| !kernel.channels[c].used));
+        match (random.below(7), self.likes) {
+            (0 | 1, _) => t.map(|t| call(0x01, t, self.level(random), random.pick(&[0, 1, 2]))),
+            (2..=4, Likes::Flags) | (4, Likes::Anything) => g.map(|g| call(0x30, g, if random.chance(70) { 0 } else { random.mask() }, 0)),
+            (2..=4, Likes::Messages) | (5, _) => c.map(|c| call(0x40, c, random.capacity().into(), 0)),
+            (2..=4, _) => m.map(|m| call(0x20, m, 0, 0)),
             _ => s.map(|s| call(0x10, s, random.pick(&[0, 0, 0, 1]), 0)),
         }
     }
@@ -231,9 +260,9 @@ impl Caller {
         Some(call(0x33, g, mask, if random.chance(85) { helps } else { 1 - helps }))
     }
 
-    /// Changes the base of a task in a chain or in a group's queue, or of one that has peers.
+    /// Changes the base of a task in a chain or in the queue of a group or a channel, or of one that has peers.
     fn reshape(&mut self, random: &mut Random, kernel: &Kernel) -> Option<Call> {
-        let stands = |t: usize| kernel.waits_for_holder(t).is_some() || wanted_by(&kernel.tasks[t]).is_some();
+        let stands = |t: usize| matches!(kernel.tasks[t].state, State::Mutex(_) | State::Flags(..) | State::Channel(_));
         let waiter = random.pick_from((0..TASKS).filter(|&t| stands(t)));
         let any = random.pick_from((0..TASKS).filter(|&t| kernel.tasks[t].used));
         let t = if random.chance(70) { waiter.or(any)? } else { any? };
@@ -258,10 +287,12 @@ impl Caller {
         let m = random.pick_from((0..OBJECTS).filter(|&m| waiting(&kernel.mutexes[m].queue)));
         let s = random.pick_from((0..OBJECTS).filter(|&s| waiting(&kernel.semaphores[s].queue)));
         let g = random.pick_from((0..GROUPS).filter(|&g| waiting(&kernel.groups[g].queue)));
+        let c = random.pick_from((0..OBJECTS).filter(|&c| waiting(&kernel.channels[c].queue)));
         let force = u32::from(random.chance(80));
-        match random.below(4) {
+        match random.below(6) {
             0 => s.map(|s| call(0x11, s, force, 0)),
             1 => g.map(|g| call(0x31, g, force, 0)),
+            2 => c.map(|c| call(0x41, c, force, 0)),
             _ => m.map(|m| call(0x21, m, force, 0)),
         }
     }
@@ -290,7 +321,8 @@ impl Caller {
         let s = random.pick_from((0..OBJECTS).filter(|&s| !kernel.semaphores[s].queue.is_empty()));
         let m = random.pick_from((0..OBJECTS).filter(|&m| !kernel.mutexes[m].queue.is_empty()));
         let g = random.pick_from((0..GROUPS).filter(|&g| !kernel.groups[g].queue.is_empty()));
-        match random.below(12) {
+        let c = random.pick_from((0..OBJECTS).filter(|&c| !kernel.channels[c].queue.is_empty()));
+        match random.below(14) {
             0 => random.pick_from(tasks(&|t| t.suspends > 0).into_iter()).map(|t| call(0x05, t, 0, 0)),
             1 => random.pick_from(tasks(&|t| t.state == State::Delayed).into_iter()).map(|t| call(0x08, t, 0, 0)),
             2 => s.map(|s| call(0x13, s, 0, 0)),
@@ -300,6 +332,8 @@ impl Caller {
             6 | 7 => self.grow(random, kernel),
             8 => self.post_flags(random, kernel),
             9 => g.map(|g| call(0x34, g, 0, 0)),
+            10 => self.post_message(random, kernel),
+            11 => c.map(|c| call(0x44, c, 0, 0)),
             _ => Some(call(0x0B, 0, 0, 0)),
         }
     }

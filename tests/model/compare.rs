@@ -23,7 +23,7 @@ mod record;
 mod tables;
 
 use caller::Caller;
-use image::{meaning, COLUMNS, IMAGE};
+use image::{meaning, Column, COLUMNS, IMAGE};
 use kernel::kinds::{body, read_call};
 use kernel::rules::RULES;
 use kernel::{Call, Kernel, NUMBERS};
@@ -31,6 +31,9 @@ use met::Met;
 use port::{all_in_words, compare, fail, hex, step_both, step_on_null, tell_difference, tell_image, Difference, Lent, UNSOUND};
 use random::{Random, BORDERS};
 use std::time::Instant;
+
+/// The longest bytes lent where a wrong length is tried.
+const LONGEST: usize = IMAGE + 1000;
 
 // ---------------------------------------------------------------------------------------------------
 // random
@@ -47,7 +50,7 @@ fn sequence(seed: u64, longest: usize, calls: &mut Vec<Call>, met: &mut Met) -> 
         let before = kernel.clone();
         calls.push(call);
         match step_both(&mut kernel, &mut lent, call) {
-            Ok(answer) => met.note(&before, &kernel, call, answer),
+            Ok(outcome) => met.note(&before, &kernel, call, outcome),
             Err(difference) => return Err((start, difference)),
         }
     }
@@ -133,10 +136,13 @@ fn reached(random: &mut Random) -> (Kernel, Caller) {
     (kernel, caller)
 }
 
-/// The richest of some such tables.
+/// The richest of some such tables: that with most numbers other than 0, of each column no more than some.
 fn rich(random: &mut Random) -> (Kernel, Caller) {
-    let filled = |kernel: &Kernel| kernel.encode().iter().filter(|&&byte| byte != 0).count();
-    (0..8).map(|_| reached(random)).max_by_key(|(kernel, _)| filled(kernel)).unwrap()
+    let filled = |image: &[u8]| {
+        let of = |column: &Column| (0..column.count).filter(|&i| column.get(image, i) != 0).count().min(20);
+        COLUMNS.iter().map(of).sum::<usize>()
+    };
+    (0..8).map(|_| reached(random)).max_by_key(|(kernel, _)| filled(&kernel.encode())).unwrap()
 }
 
 #[derive(Default)]
@@ -190,7 +196,7 @@ fn on_damaged(lent: &mut Lent, image: &[u8], call: Call, judged: &mut Judged) ->
 }
 
 fn damaged_images(count: usize, seed: u64, all_bits: usize, each: usize) {
-    println!("damage: {count} images, seed {seed}, every single bit of {all_bits} tables, then {each} of each table");
+    println!("damage: {count} images, seed {seed}, tables with every single bit: {all_bits}, then {each} images of each table");
     let began = Instant::now();
     let mut judged = Judged::default();
     let (mut made, mut tables) = (0, 0u64);
@@ -297,7 +303,7 @@ fn null_images(random: &mut Random) {
 /// A kind with border numbers: every combination of them where the kind uses no more than `all`, else of each
 /// two that stand side by side.
 fn calls_of_kind(random: &mut Random, kind: u8, all: usize) -> Vec<Call> {
-    let served = kind < 0x80 || kind == 0x93 || kind == 0xB3;
+    let served = kind < 0x80 || matches!(kind, 0x93 | 0xB3 | 0xC3);
     let uses = if served { body(kind).map_or(1, |widths| widths.len()) } else { 1 };
     let (size, windows) = if uses <= all { (uses, 1) } else { (2, uses) };
     let mut calls = vec![];
@@ -350,7 +356,7 @@ fn kinds(seed: u64, tables: usize) {
                 lent.lend(&image);
                 made += 1;
                 match step_both(&mut kernel, &mut lent, call) {
-                    Ok(answer) => met.note(&start, &kernel, call, answer),
+                    Ok(outcome) => met.note(&start, &kernel, call, outcome),
                     Err(difference) => {
                         println!("DIFFERENCE at table {n} (seed {own})");
                         tell_start(&start);
@@ -407,19 +413,20 @@ fn main() {
     let number = |name: &str, usual: usize| flag(&arguments, name).map_or(usual, |n| n as usize);
     let seed = flag(&arguments, "--seed").unwrap_or(1);
     let damage = |images: usize| {
-        damaged_images(images, seed, number("--all-bits", images / (2 * IMAGE * 8) + 1), number("--each", 50));
+        // single bits are at most half of the images
+        damaged_images(images, seed, number("--all-bits", images / (2 * IMAGE * 8)), number("--each", 50));
     };
     match mode {
         "random" => random_calls(count(1_000_000), seed, number("--longest", 400)),
         "damage" => damage(count(100_000)),
-        "lengths" => lengths(seed, number("--up-to", 5000)),
+        "lengths" => lengths(seed, number("--up-to", LONGEST)),
         "kinds" => kinds(seed, number("--tables", 40)),
-        "fresh" => fresh::fresh(count(1000), seed, number("--up-to", 5000)),
+        "fresh" => fresh::fresh(count(1000), seed, number("--up-to", LONGEST)),
         "tape" => tapes(&arguments[1..]),
         "record" => record::record(&arguments[1], number("--calls", 100_000), number("--images", 10_000), seed),
         "all" => {
-            fresh::fresh(1000, seed, 5000);
-            lengths(seed, 5000);
+            fresh::fresh(1000, seed, LONGEST);
+            lengths(seed, LONGEST);
             kinds(seed, 40);
             damage(100_000);
             random_calls(1_000_000, seed, 400);

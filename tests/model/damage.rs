@@ -2,16 +2,16 @@
 //! another sound table comes out.
 
 use crate::image::{COLUMNS, IMAGE};
-use crate::kernel::{Kernel, Place, State, Task, GROUPS, OBJECTS, TASKS};
+use crate::kernel::{Kernel, Place, State, Task, GROUPS, MOST_MESSAGES, OBJECTS, TASKS};
 use crate::random::Random;
 use crate::tables::{arrange, settle, some_wanted};
 
 /// A damaged copy of the image; `other` is a second image to take bytes from.
 pub fn damaged(random: &mut Random, kernel: &Kernel, other: &[u8]) -> Vec<u8> {
-    match random.below(10) {
+    match random.below(11) {
         0 => damaged_bytes(random, kernel.encode(), other),
-        1 => damaged_columns(random, kernel.encode()),
-        2 => stale_chain(random, kernel.clone()).encode(),
+        1 | 2 => damaged_columns(random, kernel.encode()),
+        3 => stale_chain(random, kernel.clone()).encode(),
         _ => damaged_fields(random, kernel.clone()).encode(),
     }
 }
@@ -37,15 +37,17 @@ fn damaged_bytes(random: &mut Random, mut image: Vec<u8>, other: &[u8]) -> Vec<u
     image
 }
 
-/// Numbers of some columns, each column as likely as any other, however few its bytes.
+/// Numbers of some columns, each column as likely as any other, however few its bytes; often one that is not 0.
 fn damaged_columns(random: &mut Random, mut image: Vec<u8>) -> Vec<u8> {
     for _ in 0..random.between(1, 2) {
         let column = random.pick(COLUMNS);
-        let i = random.below(column.count);
+        let filled = random.pick_from((0..column.count).filter(|&i| column.get(&image, i) != 0));
+        let any = random.below(column.count);
+        let i = if random.chance(50) { filled.unwrap_or(any) } else { any };
         let n = column.get(&image, i);
         let other = column.get(&image, random.below(column.count));
-        let border = random.border();
-        column.put(&mut image, i, random.pick(&[0, 1, n.wrapping_add(1), n.wrapping_sub(1), other, border]));
+        let (border, small) = (random.border(), random.between(2, 8) as u32);
+        column.put(&mut image, i, random.pick(&[0, 1, n.wrapping_add(1), n.wrapping_sub(1), other, border, small]));
     }
     image
 }
@@ -68,12 +70,13 @@ fn stale_chain(random: &mut Random, mut kernel: Kernel) -> Kernel {
 
 fn damaged_fields(random: &mut Random, mut kernel: Kernel) -> Kernel {
     for _ in 0..random.pick(&[1, 1, 1, 2, 3]) {
-        match random.below(11) {
+        match random.below(13) {
             0..=3 => damage_task(random, &mut kernel),
             4 => damage_semaphore(random, &mut kernel),
             5 | 6 => damage_mutex(random, &mut kernel),
             7 | 8 => damage_queue(random, &mut kernel),
             9 => damage_flags(random, &mut kernel),
+            10 | 11 => damage_channel(random, &mut kernel),
             _ => damage_rest(random, &mut kernel),
         }
     }
@@ -97,7 +100,7 @@ fn damage_task(random: &mut Random, kernel: &mut Kernel) {
     let t = some_task(random, kernel);
     let tick = kernel.tick;
     let task = &mut kernel.tasks[t];
-    match random.below(12) {
+    match random.below(13) {
         0 => task.base = random.pick(&[0, 1, 5, 7, 62, 63, 255]),
         1 => task.working = random.pick(&[0, 1, 5, 7, 62, 63, 255]),
         2 => task.working = if random.chance(50) { task.base } else { task.working.wrapping_sub(1) },
@@ -115,6 +118,7 @@ fn damage_task(random: &mut Random, kernel: &mut Kernel) {
             task.mark = if random.chance(25) { None } else { Some(random.pick(&near)) };
         }
         10 => task.outcome = random.pick(&[0, 1, 2, 3, 4, 255]),
+        11 => task.message = random.message(),
         _ => free_or_use(random, task),
     }
 }
@@ -129,11 +133,12 @@ fn free_or_use(random: &mut Random, task: &mut Task) {
 }
 
 fn some_state(random: &mut Random) -> State {
-    match random.below(8) {
+    match random.below(10) {
         0 => State::Plain,
         1 => State::Delayed,
         2 | 3 => State::Semaphore(random.below(OBJECTS)),
         4 | 5 => State::Flags(random.below(GROUPS), some_wanted(random)),
+        6 | 7 => State::Channel(random.below(OBJECTS)),
         _ => State::Mutex(random.below(OBJECTS)),
     }
 }
@@ -185,6 +190,25 @@ fn damage_flags(random: &mut Random, kernel: &mut Kernel) {
             kernel.tasks[t].state = State::Flags(g, wanted);
         }
         _ => {}
+    }
+}
+
+/// A channel: in use or not, its capacity, or its messages.
+fn damage_channel(random: &mut Random, kernel: &mut Kernel) {
+    let waited = random.pick_from((0..OBJECTS).filter(|&c| !kernel.channels[c].queue.is_empty()));
+    let filled = random.pick_from((0..OBJECTS).filter(|&c| !kernel.channels[c].messages.is_empty()));
+    let any = random.below(OBJECTS);
+    let c = random.pick(&[waited, filled, None]).unwrap_or(any);
+    let channel = &mut kernel.channels[c];
+    let held = channel.messages.len();
+    match random.below(7) {
+        0 => channel.used = !channel.used,
+        1 => channel.capacity = random.pick(&[0, 1, 31, 32, 33, 255]),
+        2 => channel.capacity = random.pick(&[held as u8, (held as u8).wrapping_sub(1)]),
+        3 if held > 0 => channel.messages.truncate(held - 1),
+        4 if held > 0 => channel.messages[random.below(held)] = random.message(),
+        _ if held < MOST_MESSAGES => channel.messages.insert(random.below(held + 1), random.message()),
+        _ => channel.messages.clear(),
     }
 }
 

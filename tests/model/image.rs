@@ -1,11 +1,11 @@
 //! The image: which byte says what, from docs/IMAGE.md. No other file of the model names a byte.
 #![allow(dead_code)]
 
-use crate::kernel::{Kernel, State, Task, Test, Wanted, GROUPS, OBJECTS, TASKS};
+use crate::kernel::{Channel, Kernel, State, Task, Test, Wanted, GROUPS, MOST_MESSAGES, OBJECTS, TASKS};
 
-pub const IMAGE: usize = 2192;
+pub const IMAGE: usize = 4928;
 
-const QUEUES: usize = 1 + 2 * OBJECTS + GROUPS;
+const QUEUES: usize = 1 + 3 * OBJECTS + GROUPS;
 const SLOTS: usize = TASKS;
 
 /// One field of all tasks or objects, or all slots, or a single number. "Numbers of two and four bytes have
@@ -41,18 +41,23 @@ columns! {
     LEFT: "task", "left of the quantum", 384, 2, TASKS;
     DUE: "task", "due mark", 448, 4, TASKS;
     MASK: "task", "mask of its flags", 576, 4, TASKS;
-    SEMAPHORE_USED: "semaphore", "in use", 704, 1, OBJECTS;
-    COUNT: "semaphore", "count", 720, 4, OBJECTS;
-    MUTEX_USED: "mutex", "in use", 784, 1, OBJECTS;
-    HOLDER: "mutex", "holder plus 1", 800, 1, OBJECTS;
-    NESTING: "mutex", "nesting", 816, 1, OBJECTS;
-    GROUP_USED: "group", "in use", 832, 1, GROUPS;
-    FLAGS: "group", "flags", 840, 4, GROUPS;
-    SLOT: "queue", "slot", 872, 1, QUEUES * SLOTS;
-    TICK: "", "tick counter", 2184, 4, 1;
-    DEFAULT_QUANTUM: "", "default quantum", 2188, 2, 1;
-    DEPTH: "", "lock depth", 2190, 1, 1;
-    RUNNING: "", "running task plus 1", 2191, 1, 1;
+    MESSAGE: "task", "message", 704, 4, TASKS;
+    SEMAPHORE_USED: "semaphore", "in use", 832, 1, OBJECTS;
+    COUNT: "semaphore", "count", 848, 4, OBJECTS;
+    MUTEX_USED: "mutex", "in use", 912, 1, OBJECTS;
+    HOLDER: "mutex", "holder plus 1", 928, 1, OBJECTS;
+    NESTING: "mutex", "nesting", 944, 1, OBJECTS;
+    GROUP_USED: "group", "in use", 960, 1, GROUPS;
+    FLAGS: "group", "flags", 968, 4, GROUPS;
+    CHANNEL_USED: "channel", "in use", 1000, 1, OBJECTS;
+    CAPACITY: "channel", "capacity", 1016, 1, OBJECTS;
+    HELD: "channel", "messages held", 1032, 1, OBJECTS;
+    SLOT: "queue", "slot", 1048, 1, QUEUES * SLOTS;
+    TICK: "", "tick counter", 2872, 4, 1;
+    DEFAULT_QUANTUM: "", "default quantum", 2876, 2, 1;
+    DEPTH: "", "lock depth", 2878, 1, 1;
+    RUNNING: "", "running task plus 1", 2879, 1, 1;
+    HELD_MESSAGE: "messages", "slot", 2880, 4, OBJECTS * MOST_MESSAGES;
 }
 
 /// "There is no padding": each column begins where the one before it ends.
@@ -131,6 +136,9 @@ impl Kernel {
             GROUP_USED.put(at, g, group.used.into());
             FLAGS.put(at, g, group.flags);
         }
+        for (c, channel) in self.channels.iter().enumerate() {
+            encode_channel(channel, c, at);
+        }
         for (q, place) in Kernel::places().enumerate() {
             for (slot, &t) in self.queue(place).iter().enumerate() {
                 SLOT.put(at, q * SLOTS + slot, plus_one(Some(t)));
@@ -165,6 +173,11 @@ impl Kernel {
             group.used = GROUP_USED.flag(image, g)?;
             group.flags = FLAGS.get(image, g);
         }
+        for (c, channel) in kernel.channels.iter_mut().enumerate() {
+            channel.used = CHANNEL_USED.flag(image, c)?;
+            channel.capacity = CAPACITY.byte(image, c);
+            channel.messages = decode_messages(image, c)?;
+        }
         for (q, place) in Kernel::places().enumerate() {
             *kernel.queue_mut(place) = decode_queue(image, q)?;
         }
@@ -192,6 +205,7 @@ fn encode_task(task: &Task, t: usize, image: &mut [u8]) {
         State::Semaphore(s) => (2, s),
         State::Mutex(m) => (3, m),
         State::Flags(g, _) => (4, g),
+        State::Channel(c) => (5, c),
     };
     USED.put(image, t, task.used.into());
     BASE.put(image, t, task.base.into());
@@ -204,10 +218,21 @@ fn encode_task(task: &Task, t: usize, image: &mut [u8]) {
     QUANTUM.put(image, t, task.quantum.into());
     LEFT.put(image, t, task.left.into());
     DUE.put(image, t, task.mark.unwrap_or(0));
+    MESSAGE.put(image, t, task.message);
     if let State::Flags(_, wanted) = task.state {
         TEST.put(image, t, wanted.test as u32);
         CONSUME.put(image, t, wanted.consume.into());
         MASK.put(image, t, wanted.mask);
+    }
+}
+
+fn encode_channel(channel: &Channel, c: usize, image: &mut [u8]) {
+    assert!(channel.messages.len() <= MOST_MESSAGES);
+    CHANNEL_USED.put(image, c, channel.used.into());
+    CAPACITY.put(image, c, channel.capacity.into());
+    HELD.put(image, c, channel.messages.len() as u32);
+    for (slot, &message) in channel.messages.iter().enumerate() {
+        HELD_MESSAGE.put(image, c * MOST_MESSAGES + slot, message);
     }
 }
 
@@ -230,6 +255,7 @@ fn decode_state(image: &[u8], t: usize) -> Option<State> {
         1 if object == 0 => Some(State::Delayed),
         2 if object < OBJECTS => Some(State::Semaphore(object)),
         3 if object < OBJECTS => Some(State::Mutex(object)),
+        5 if object < OBJECTS => Some(State::Channel(object)),
         _ => None,
     }
 }
@@ -250,7 +276,16 @@ fn decode_task(image: &[u8], t: usize) -> Option<Task> {
         state: decode_state(image, t)?,
         mark,
         outcome: OUTCOME.byte(image, t),
+        message: MESSAGE.get(image, t),
     })
+}
+
+/// The messages of a channel, the next one first: as many as it holds, and the slots behind them are 0.
+fn decode_messages(image: &[u8], c: usize) -> Option<Vec<u32>> {
+    let slots: Vec<u32> = (0..MOST_MESSAGES).map(|slot| HELD_MESSAGE.get(image, c * MOST_MESSAGES + slot)).collect();
+    let held = HELD.get(image, c) as usize;
+    let unused = slots.get(held..)?;
+    if unused.iter().any(|&message| message != 0) { None } else { Some(slots[..held].to_vec()) }
 }
 
 /// "A queue is packed to the front [..] the slots behind the last entry are 0."
@@ -286,7 +321,9 @@ fn field(column: &Column, i: usize) -> String {
         ("queue", 0, slot) => format!("able queue, {name} {slot}"),
         ("queue", q, slot) if q <= OBJECTS => format!("queue of semaphore {}, {name} {slot}", q - 1),
         ("queue", q, slot) if q <= 2 * OBJECTS => format!("queue of mutex {}, {name} {slot}", q - 1 - OBJECTS),
-        ("queue", q, slot) => format!("queue of group {}, {name} {slot}", q - 1 - 2 * OBJECTS),
+        ("queue", q, slot) if q <= 2 * OBJECTS + GROUPS => format!("queue of group {}, {name} {slot}", q - 1 - 2 * OBJECTS),
+        ("queue", q, slot) => format!("queue of channel {}, {name} {slot}", q - 1 - 2 * OBJECTS - GROUPS),
+        ("messages", ..) => format!("messages of channel {}, {name} {}", i / MOST_MESSAGES, i % MOST_MESSAGES),
         (of, ..) => format!("{of} {i}: {name}"),
     }
 }

@@ -4,6 +4,7 @@
 #![allow(dead_code)]
 
 mod calls;
+mod channels;
 mod groups;
 pub mod kinds;
 mod mutexes;
@@ -13,12 +14,13 @@ mod tasks;
 mod time;
 
 pub const TASKS: usize = 32;
-pub const OBJECTS: usize = 16; // semaphores, mutexes
+pub const OBJECTS: usize = 16; // semaphores, mutexes, channels
 pub const GROUPS: usize = 8;
 
 pub const LAST_PRIORITY: u32 = 62;
 pub const MOST: u8 = 250; // suspends, nestings, locks
 pub const MOST_QUANTUM: u32 = 65535;
+pub const MOST_MESSAGES: usize = 32; // in a channel
 
 #[derive(Clone, Copy, PartialEq, Eq, Debug, Default)]
 pub enum State {
@@ -28,6 +30,7 @@ pub enum State {
     Semaphore(usize),
     Mutex(usize),
     Flags(usize, Wanted),
+    Channel(usize),
 }
 
 /// "A wait names a mask and one of four tests [..]; it may consume the flags that met the test."
@@ -57,6 +60,7 @@ pub struct Task {
     pub state: State,
     pub mark: Option<u32>,
     pub outcome: u8,
+    pub message: u32,
 }
 
 #[derive(Clone, PartialEq, Eq, Debug, Default)]
@@ -82,12 +86,23 @@ pub struct Group {
     pub queue: Vec<usize>,
 }
 
+/// A message queue, called a channel, since a queue is a row of tasks: "up to 32 messages, each a 32-bit number, the
+/// capacity 1 to 32 fixed at creation". The message that is taken next stands first.
+#[derive(Clone, PartialEq, Eq, Debug, Default)]
+pub struct Channel {
+    pub used: bool,
+    pub capacity: u8,
+    pub messages: Vec<u32>,
+    pub queue: Vec<usize>,
+}
+
 #[derive(Clone, PartialEq, Eq, Debug)]
 pub struct Kernel {
     pub tasks: Vec<Task>,
     pub semaphores: Vec<Semaphore>,
     pub mutexes: Vec<Mutex>,
     pub groups: Vec<Group>,
+    pub channels: Vec<Channel>,
     pub able: Vec<usize>,
     pub tick: u32,
     pub default_quantum: u16,
@@ -110,6 +125,8 @@ pub struct Call {
 pub struct Outcome {
     pub answer: u32,
     pub runs: Option<usize>,
+    /// How many messages a flush took; "0 otherwise".
+    pub further: u32,
 }
 
 /// One of the queues.
@@ -119,6 +136,7 @@ pub enum Place {
     Semaphore(usize),
     Mutex(usize),
     Group(usize),
+    Channel(usize),
 }
 
 // ---------------------------------------------------------------------------------------------------
@@ -133,6 +151,7 @@ impl Kernel {
             semaphores: vec![Semaphore::default(); OBJECTS],
             mutexes: vec![Mutex::default(); OBJECTS],
             groups: vec![Group::default(); GROUPS],
+            channels: vec![Channel::default(); OBJECTS],
             able: vec![],
             tick: 0,
             default_quantum: 100,
@@ -229,6 +248,7 @@ impl Kernel {
             Place::Semaphore(s) => &self.semaphores[s].queue,
             Place::Mutex(m) => &self.mutexes[m].queue,
             Place::Group(g) => &self.groups[g].queue,
+            Place::Channel(c) => &self.channels[c].queue,
         }
     }
 
@@ -238,6 +258,7 @@ impl Kernel {
             Place::Semaphore(s) => &mut self.semaphores[s].queue,
             Place::Mutex(m) => &mut self.mutexes[m].queue,
             Place::Group(g) => &mut self.groups[g].queue,
+            Place::Channel(c) => &mut self.channels[c].queue,
         }
     }
 
@@ -245,7 +266,8 @@ impl Kernel {
         let semaphores = (0..OBJECTS).map(Place::Semaphore);
         let mutexes = (0..OBJECTS).map(Place::Mutex);
         let groups = (0..GROUPS).map(Place::Group);
-        std::iter::once(Place::Able).chain(semaphores).chain(mutexes).chain(groups)
+        let channels = (0..OBJECTS).map(Place::Channel);
+        std::iter::once(Place::Able).chain(semaphores).chain(mutexes).chain(groups).chain(channels)
     }
 
     /// The queue in which a task belongs: "the able tasks, and the waiters of each object".
@@ -254,6 +276,7 @@ impl Kernel {
             State::Semaphore(s) => Some(Place::Semaphore(s)),
             State::Mutex(m) => Some(Place::Mutex(m)),
             State::Flags(g, _) => Some(Place::Group(g)),
+            State::Channel(c) => Some(Place::Channel(c)),
             _ if self.is_able(t) => Some(Place::Able),
             _ => None,
         }

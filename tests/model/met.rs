@@ -1,6 +1,6 @@
 //! What random calls met.
 use crate::kernel::kinds::KINDS;
-use crate::kernel::{Call, Kernel, State, Wanted, TASKS};
+use crate::kernel::{Call, Kernel, Outcome, State, Task, Wanted, TASKS};
 use std::collections::BTreeMap;
 
 /// What the sequences met, to show that they reach the corners.
@@ -22,6 +22,13 @@ pub struct Met {
     /// ticks that ended a turn
     turns: u64,
     flags: MetFlags,
+    channels: MetChannels,
+}
+
+/// Did a chain change the working priority of a task that waits, and waits on, in such a state?
+fn moved_one(before: &Kernel, after: &Kernel, waits: impl Fn(State) -> bool) -> bool {
+    let moved = |was: &Task, is: &Task| was.working != is.working && was.base == is.base;
+    before.tasks.iter().zip(&after.tasks).any(|(was, is)| waits(was.state) && was.state == is.state && moved(was, is))
 }
 
 /// What the posts of flags met.
@@ -70,12 +77,6 @@ impl MetFlags {
         self.met_left += u64::from(now.queue.iter().any(|&t| wants(t, after).met(now.flags)));
     }
 
-    fn note_moved(&mut self, before: &Kernel, after: &Kernel) {
-        let waits = |t: usize| matches!(before.tasks[t].state, State::Flags(..)) && before.tasks[t].state == after.tasks[t].state;
-        let changed = |t: usize| before.tasks[t].working != after.tasks[t].working && before.tasks[t].base == after.tasks[t].base;
-        self.moved += u64::from((0..TASKS).any(|t| waits(t) && changed(t)));
-    }
-
     fn tell(&self) {
         println!("  waiters for flags that a chain moved {}", self.moved);
         let Self { several_woken, most_woken, past_others, .. } = self;
@@ -87,11 +88,99 @@ impl MetFlags {
     }
 }
 
+/// What the calls for channels met, each with its name.
+#[derive(Default)]
+struct MetChannels {
+    counts: BTreeMap<&'static str, u64>,
+    most_flushed: u32,
+}
+
+const MET_CHANNELS: [&str; 16] = [
+    "posts to a waiter",
+    "to the first of several waiters",
+    "to a suspended waiter",
+    "to a waiter by an interrupt",
+    "to the front before others",
+    "to the end behind others",
+    "posts that filled one of 32",
+    "interrupts' posts refused with 16",
+    "messages of 0 taken",
+    "taken when locked",
+    "flushes that told more than 0",
+    "deletes of messages",
+    "forced deletes of several waiters",
+    "waits timed out",
+    "waits ended with an older message",
+    "waiters moved by a chain",
+];
+
+impl MetChannels {
+    fn count(&mut self, name: &'static str, met: bool) {
+        assert!(MET_CHANNELS.contains(&name));
+        *self.counts.entry(name).or_default() += u64::from(met);
+    }
+
+    fn note(&mut self, before: &Kernel, after: &Kernel, call: Call, outcome: Outcome) {
+        let waits = |state| matches!(state, State::Channel(_));
+        self.count("waiters moved by a chain", moved_one(before, after, waits));
+        let ends = |t: usize| waits(before.tasks[t].state) && after.tasks[t].state == State::Plain && after.tasks[t].outcome > 0;
+        let ended: Vec<usize> = (0..TASKS).filter(|&t| ends(t)).collect();
+        self.count("waits timed out", ended.iter().any(|&t| after.tasks[t].outcome == 1));
+        self.count("waits ended with an older message", ended.iter().any(|&t| after.tasks[t].message > 0));
+        self.count("interrupts' posts refused with 16", call.kind == 0xC3 && outcome.answer == 16);
+        if outcome.answer == 0 && (0x40..=0x45).contains(&(call.kind & 0x7F)) {
+            self.note_done(before, after, call);
+        }
+        self.count("flushes that told more than 0", outcome.further > 0);
+        self.most_flushed = self.most_flushed.max(outcome.further);
+    }
+
+    fn note_done(&mut self, before: &Kernel, after: &Kernel, call: Call) {
+        let c = call.numbers[0] as usize;
+        let (was, is) = (&before.channels[c], &after.channels[c]);
+        match call.kind & 0x7F {
+            0x41 => {
+                self.count("deletes of messages", !was.messages.is_empty());
+                self.count("forced deletes of several waiters", was.queue.len() > 1);
+            }
+            0x42 => {
+                self.count("messages of 0 taken", was.messages[0] == 0);
+                self.count("taken when locked", before.depth > 0);
+            }
+            0x43 => {
+                self.count("posts to a waiter", !was.queue.is_empty());
+                self.count("to the first of several waiters", was.queue.len() > 1);
+                self.count("to a suspended waiter", was.queue.first().map_or(false, |&t| before.tasks[t].suspends > 0));
+                self.count("to a waiter by an interrupt", !was.queue.is_empty() && call.kind == 0xC3);
+                self.count("to the front before others", !was.messages.is_empty() && call.numbers[2] == 1);
+                self.count("to the end behind others", !was.messages.is_empty() && call.numbers[2] == 0);
+                self.count("posts that filled one of 32", is.messages.len() == 32);
+            }
+            _ => {}
+        }
+    }
+
+    fn met(&self, name: &str) -> u64 {
+        self.counts.get(name).copied().unwrap_or(0)
+    }
+
+    fn unmet(&self) -> impl Iterator<Item = String> + '_ {
+        MET_CHANNELS.iter().filter(|name| self.met(name) == 0).map(|name| format!("channels, {name}"))
+    }
+
+    fn tell(&self) {
+        let list: Vec<String> = MET_CHANNELS.iter().map(|name| format!("{name} {}", self.met(name))).collect();
+        println!("  channels: {}, most that a flush told {}", list.join(", "), self.most_flushed);
+    }
+}
+
 impl Met {
-    pub fn note(&mut self, before: &Kernel, after: &Kernel, call: Call, answer: u32) {
+    pub fn note(&mut self, before: &Kernel, after: &Kernel, call: Call, outcome: Outcome) {
+        let answer = outcome.answer;
         *self.answers.entry((call.kind & 0x7F, answer)).or_default() += 1;
         self.locked += u64::from(before.depth > 0);
-        self.flags.note_moved(before, after);
+        self.flags.moved += u64::from(moved_one(before, after, |state| matches!(state, State::Flags(..))));
+        self.channels.note(before, after, call, outcome);
         if answer == 14 {
             self.note_chain(after, before.running.unwrap());
         }
@@ -101,7 +190,7 @@ impl Met {
         let waits = |t: usize| before.tasks[t].suspends > 0 && before.tasks[t].state != State::Plain;
         let ended = |t: usize| after.tasks[t].used && after.tasks[t].state == State::Plain;
         let kind = call.kind & 0x7F;
-        if matches!(kind, 0x13 | 0x23 | 0x33) {
+        if matches!(kind, 0x13 | 0x23 | 0x33 | 0x43) {
             self.suspended_given += u64::from((0..32).any(|t| waits(t) && ended(t)));
         }
         match kind {
@@ -139,16 +228,17 @@ impl Met {
         println!("  suspended waiters given {}, forced mutex deletes with several waiters {}, on a ring {}", self.suspended_given, self.forced, self.forced_on_ring);
         println!("  tasks created with 0 by another default than 100 {}, turns that a tick ended {}", self.by_default, self.turns);
         self.flags.tell();
-        let mut unmet = vec![];
+        self.channels.tell();
+        let mut unmet: Vec<String> = self.channels.unmet().collect();
         for (kind, name, _) in KINDS {
-            let counts = self.answers.range((kind, 0)..=(kind, 15));
+            let counts = self.answers.range((kind, 0)..=(kind, 16));
             let list: Vec<String> = counts.map(|((_, answer), count)| format!("{answer}: {count}")).collect();
             println!("  {kind:02X} {name:17} {}", list.join(", "));
             let missing = possible(kind).iter().filter(|&&answer| !self.answers.contains_key(&(kind, answer)));
             unmet.extend(missing.map(|answer| format!("{name} {answer}")));
         }
         if unmet.is_empty() {
-            println!("  every answer that a kind can give was met");
+            println!("  every answer that a kind can give was met, and all that is counted of channels");
         } else {
             println!("  not met: {}", unmet.join(", "));
         }
@@ -162,7 +252,7 @@ fn possible(kind: u8) -> &'static [u32] {
         0x02 => &[0, 1, 2, 5, 7, 13],
         0x03 => &[0, 1, 2, 4, 5],
         0x04 => &[0, 1, 2, 5, 7, 10],
-        0x05 | 0x08 | 0x14 | 0x24 | 0x34 => &[0, 1, 2, 5, 12],
+        0x05 | 0x08 | 0x14 | 0x24 | 0x34 | 0x44 => &[0, 1, 2, 5, 12],
         0x06 => &[0, 5, 6, 7, 12],
         0x07 => &[0, 4, 5, 6, 7],
         0x09 => &[0, 5, 10],
@@ -170,12 +260,15 @@ fn possible(kind: u8) -> &'static [u32] {
         0x0B => &[0],
         0x0D => &[0, 4, 5],
         0x10 | 0x20 | 0x30 => &[0, 1, 3, 5],
-        0x11 | 0x21 | 0x31 => &[0, 1, 2, 4, 5, 13],
-        0x12 | 0x32 => &[0, 1, 2, 4, 5, 6, 7, 8, 14],
+        0x11 | 0x21 | 0x31 | 0x41 => &[0, 1, 2, 4, 5, 13],
+        0x12 | 0x32 | 0x42 => &[0, 1, 2, 4, 5, 6, 7, 8, 14],
         0x13 => &[0, 1, 2, 11],
         0x22 => &[0, 1, 2, 4, 5, 6, 7, 8, 10, 14],
         0x23 => &[0, 1, 2, 5, 6, 9],
         0x33 => &[0, 1, 2, 4],
+        0x40 => &[0, 1, 3, 4, 5],
+        0x43 => &[0, 1, 2, 4, 16],
+        0x45 => &[0, 1, 2, 5],
         _ => &[],
     }
 }

@@ -6,7 +6,8 @@ use crate::kernel::{Call, Kernel, Outcome};
 #[repr(C)]
 #[derive(Clone, Copy, PartialEq, Eq)]
 pub struct NtkOutcome {
-    pub answer: u32,
+    pub answer: u16,
+    pub further: u16,
     pub runs: u32,
 }
 
@@ -96,11 +97,11 @@ pub struct Difference {
 }
 
 pub fn expected(outcome: Outcome) -> NtkOutcome {
-    NtkOutcome { answer: outcome.answer, runs: outcome.runs.map_or(0, |t| t as u32 + 1) }
+    NtkOutcome { answer: outcome.answer as u16, runs: outcome.runs.map_or(0, |t| t as u32 + 1), further: outcome.further as u16 }
 }
 
 /// "With 15 the task to run is none."
-pub const UNSOUND: NtkOutcome = NtkOutcome { answer: 15, runs: 0 };
+pub const UNSOUND: NtkOutcome = NtkOutcome { answer: 15, runs: 0, further: 0 };
 
 /// Makes a call on the lent image and compares with the model's outcome and image.
 pub fn compare(lent: &mut Lent, call: Call, model: NtkOutcome, after: &[u8]) -> Result<(), Difference> {
@@ -114,14 +115,14 @@ pub fn compare(lent: &mut Lent, call: Call, model: NtkOutcome, after: &[u8]) -> 
 }
 
 /// A step of the model and of the port side by side.
-pub fn step_both(kernel: &mut Kernel, lent: &mut Lent, call: Call) -> Result<u32, Difference> {
+pub fn step_both(kernel: &mut Kernel, lent: &mut Lent, call: Call) -> Result<Outcome, Difference> {
     let outcome = kernel.step(call);
     if !kernel.sound() {
         println!("the model itself left an unsound table after {}", in_words(call));
         std::process::exit(2);
     }
     compare(lent, call, expected(outcome), &kernel.encode())?;
-    Ok(outcome.answer)
+    Ok(outcome)
 }
 
 // ---------------------------------------------------------------------------------------------------
@@ -153,7 +154,7 @@ pub fn tell_image(image: &[u8]) {
 pub fn tell_difference(difference: &Difference) {
     let outcome = |o: NtkOutcome| {
         let runs = if o.runs == 0 { "-".to_string() } else { o.runs.wrapping_sub(1).to_string() };
-        format!("{} {runs}", o.answer)
+        format!("{} {runs}, further {}", o.answer, o.further)
     };
     println!("  call   {}", in_words(difference.call));
     println!("  model  {}", outcome(difference.model));

@@ -64,6 +64,20 @@ impl Random {
         }
     }
 
+    /// A message: mostly one that no other is like, now and then 0.
+    pub fn message(&mut self) -> u32 {
+        match self.below(8) {
+            0 => 0,
+            1 => self.border(),
+            _ => self.next() as u32,
+        }
+    }
+
+    /// A channel's capacity: mostly a small one, so that it fills, or one of the greatest.
+    pub fn capacity(&mut self) -> u8 {
+        self.pick(&[1, 1, 2, 2, 3, 4, 5, 31, 32, 32])
+    }
+
     /// A quantum above 0: mostly a small one, so that turns end.
     pub fn quantum(&mut self) -> u16 {
         self.pick(&[1, 1, 2, 2, 3, 99, 100, 256, 65534, 65535])
@@ -89,7 +103,7 @@ impl Random {
 }
 
 /// The borders of every range of the paper, and of the numbers' widths.
-pub const BORDERS: [u32; 27] = [
-    0, 1, 2, 3, 4, 7, 8, 14, 15, 16, 17, 30, 31, 32, 33, 61, 62, 63, 249, 250, 251, 255, 256, 65535, 65536,
+pub const BORDERS: [u32; 28] = [
+    0, 1, 2, 3, 4, 7, 8, 14, 15, 16, 17, 30, 31, 32, 33, 61, 62, 63, 249, 250, 251, 255, 256, 257, 65535, 65536,
     u32::MAX - 1, u32::MAX,
 ];

@@ -25,7 +25,7 @@ fn write(file: &mut impl Write, image: &[u8], is_sound: bool, rows: &[Row]) {
     bytes.extend((rows.len() as u32).to_le_bytes());
     for Row(call, outcome, after) in rows {
         bytes.push(call.kind);
-        for number in call.numbers.iter().chain([&outcome.answer, &outcome.runs]) {
+        for number in call.numbers.iter().copied().chain([outcome.answer.into(), outcome.runs, outcome.further.into()]) {
             bytes.extend(number.to_le_bytes());
         }
         bytes.extend(hash(after).to_le_bytes());
@@ -69,7 +69,7 @@ pub fn record(name: &str, calls: usize, images: usize, seed: u64) {
         }
         other = kernel.encode();
     }
-    for length in (0..5000).step_by(73) {
+    for length in (0..6000).step_by(73) {
         let image: Vec<u8> = (0..length).map(|i| other[i % other.len()]).collect();
         write_any(&mut file, &image, Call { kind: 0x0B, numbers: random.borders() });
     }

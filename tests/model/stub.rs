@@ -6,7 +6,8 @@ use kernel::{Call, Kernel};
 
 #[repr(C)]
 pub struct NtkOutcome {
-    pub answer: u32,
+    pub answer: u16,
+    pub further: u16,
     pub runs: u32,
 }
 
@@ -37,9 +38,9 @@ pub unsafe extern "C" fn ntk_step(
     let bytes = lent(image, length);
     let mut kernel = match Kernel::judge(bytes) {
         Ok(kernel) => kernel,
-        Err(_) => return NtkOutcome { answer: 15, runs: 0 },
+        Err(_) => return NtkOutcome { answer: 15, runs: 0, further: 0 },
     };
     let outcome = kernel.step(Call { kind, numbers: [a, b, c, d, e, f] });
     bytes.copy_from_slice(&kernel.encode());
-    NtkOutcome { answer: outcome.answer, runs: outcome.runs.map_or(0, |t| t as u32 + 1) }
+    NtkOutcome { answer: outcome.answer as u16, runs: outcome.runs.map_or(0, |t| t as u32 + 1), further: outcome.further as u16 }
 }

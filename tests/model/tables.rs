@@ -1,5 +1,5 @@
 //! Random sound tables, built directly: also such as no short sequence of calls reaches.
-use crate::kernel::{Group, Kernel, Mutex, Semaphore, State, Task, Test, Wanted, GROUPS, MOST, OBJECTS, TASKS};
+use crate::kernel::{Channel, Group, Kernel, Mutex, Semaphore, State, Task, Test, Wanted, GROUPS, MOST, OBJECTS, TASKS};
 use crate::random::Random;
 
 /// A sound table with tasks in every state, chains and rings.
@@ -15,24 +15,20 @@ pub fn table(random: &mut Random) -> Kernel {
         }
     }
     let used: Vec<usize> = (0..TASKS).filter(|&t| kernel.tasks[t].used).collect();
-    for s in 0..OBJECTS {
+    for i in 0..OBJECTS {
         if random.chance(crowd) {
             let count = random.pick(&[0, 0, 1, 2, u32::MAX - 1, u32::MAX]);
-            kernel.semaphores[s] = Semaphore { used: true, count, queue: vec![] };
+            kernel.semaphores[i] = Semaphore { used: true, count, queue: vec![] };
         }
-    }
-    for m in 0..OBJECTS {
         if random.chance(crowd.max(30)) {
-            let held = !used.is_empty() && random.chance(75);
-            let holder = if held { Some(random.pick(&used)) } else { None };
-            let nesting = if held { random.pick(&[1, 1, 1, 2, 3, MOST - 1, MOST]) } else { 0 };
-            kernel.mutexes[m] = Mutex { used: true, holder, nesting, queue: vec![] };
+            kernel.mutexes[i] = some_mutex(random, &used);
         }
-    }
-    for g in 0..GROUPS {
-        if random.chance(crowd) {
+        if i < GROUPS && random.chance(crowd) {
             let flags = if random.chance(30) { 0 } else { random.mask() };
-            kernel.groups[g] = Group { used: true, flags, queue: vec![] };
+            kernel.groups[i] = Group { used: true, flags, queue: vec![] };
+        }
+        if random.chance(crowd) {
+            kernel.channels[i] = some_channel(random);
         }
     }
     for &t in &used {
@@ -52,11 +48,28 @@ fn some_task(random: &mut Random, levels: &[u8]) -> Task {
     let suspends = random.pick(&[0, 0, 0, 0, 0, 0, 1, 2, MOST - 1, MOST]);
     let base = random.pick(levels);
     let outcome = random.below(4) as u8;
-    Task { used: true, base, working: base, suspends, quantum, left, state: State::Plain, mark: None, outcome }
+    let message = if random.chance(30) { 0 } else { random.message() };
+    Task { used: true, base, working: base, suspends, quantum, left, state: State::Plain, mark: None, outcome, message }
+}
+
+fn some_mutex(random: &mut Random, used: &[usize]) -> Mutex {
+    let held = !used.is_empty() && random.chance(75);
+    let holder = if held { Some(random.pick(used)) } else { None };
+    let nesting = if held { random.pick(&[1, 1, 1, 2, 3, MOST - 1, MOST]) } else { 0 };
+    Mutex { used: true, holder, nesting, queue: vec![] }
+}
+
+/// A channel that is empty, full, or in between.
+fn some_channel(random: &mut Random) -> Channel {
+    let capacity = random.capacity();
+    let most = usize::from(capacity);
+    let held = random.pick(&[0, 0, 1, 2, most / 2, most - 1, most]).min(most);
+    let messages = (0..held).map(|_| random.message()).collect();
+    Channel { used: true, capacity, messages, queue: vec![] }
 }
 
 fn some_state(random: &mut Random, kernel: &mut Kernel, t: usize) {
-    let state = match random.below(13) {
+    let state = match random.below(15) {
         0 => Some(State::Delayed),
         1 | 2 => random.pick_from((0..OBJECTS).filter(|&s| kernel.semaphores[s].used)).map(State::Semaphore),
         3..=6 => {
@@ -67,6 +80,7 @@ fn some_state(random: &mut Random, kernel: &mut Kernel, t: usize) {
             let wanted = some_wanted(random);
             random.pick_from((0..GROUPS).filter(|&g| kernel.groups[g].used)).map(|g| State::Flags(g, wanted))
         }
+        10 | 11 => random.pick_from((0..OBJECTS).filter(|&c| kernel.channels[c].used)).map(State::Channel),
         _ => None,
     };
     wait_in(random, kernel, t, state.unwrap_or(State::Plain));
@@ -86,8 +100,10 @@ fn wait_in(random: &mut Random, kernel: &mut Kernel, t: usize, state: State) {
     };
     kernel.tasks[t].state = state;
     kernel.tasks[t].mark = if marked { Some(kernel.tick.wrapping_add(random.soon())) } else { None };
-    if let State::Semaphore(s) = state {
-        kernel.semaphores[s].count = 0;
+    match state {
+        State::Semaphore(s) => kernel.semaphores[s].count = 0,
+        State::Channel(c) => kernel.channels[c].messages.clear(),
+        _ => {}
     }
 }
 

@@ -47,8 +47,9 @@ struct call {
 };
 
 /* Tasks 31, 5 and 0 in the order of their urgency: 31 holds a mutex twice over and waits for a semaphore, 5 waits for that mutex, 0 is
- * delayed. 5 comes back by its limit, waits again and comes back by a forced delete; 31 by a post, and 0 by a delay resume. Then 31 waits
- * for flags, 0 posts one of them, and 31 consumes it; in the end both wait, 31 for all flags and 0 until two are clear. */
+ * delayed. 5 comes back by its limit, waits again and comes back by a forced delete; 31 by a post, and 0 by a delay resume. Then 31 posts messages
+ * to the end and to the front of a channel and fills another; it takes one, flushes the full one, waits for it and is handed what an interrupt posts
+ * there. Then 31 waits for flags, 0 posts one of them, and 31 consumes it; in the end both wait, 31 for all flags and 0 until two are clear. */
 static const struct call calls[] = {
     {NTK_LOCK, {0}, NTK_DONE},
     {NTK_TASK_CREATE, {0, 62, 65535}, NTK_DONE},
@@ -82,6 +83,18 @@ static const struct call calls[] = {
     {NTK_DELAY_RESUME, {0}, NTK_DONE},
     {NTK_UNLOCK, {0}, NTK_DONE},
     {NTK_UNLOCK, {0}, NTK_DONE},
+    {NTK_CHANNEL_CREATE, {0, 2}, NTK_DONE},
+    {NTK_CHANNEL_CREATE, {15, 32}, NTK_DONE},
+    {NTK_CHANNEL_POST, {15, 4294967295u, NTK_AT_END}, NTK_DONE},
+    {NTK_CHANNEL_POST, {15, 0x04030201, NTK_AT_END}, NTK_DONE},
+    {NTK_CHANNEL_POST, {15, 0x80000000u, NTK_IN_FRONT}, NTK_DONE},
+    {NTK_CHANNEL_WAIT, {15, 0}, NTK_DONE},
+    {NTK_CHANNEL_POST, {0, 7, NTK_IN_FRONT}, NTK_DONE},
+    {NTK_CHANNEL_POST, {0, 8, NTK_AT_END}, NTK_DONE},
+    {NTK_CHANNEL_POST, {0, 9, NTK_AT_END}, NTK_CHANNEL_FULL},
+    {NTK_CHANNEL_FLUSH, {0}, NTK_DONE},
+    {NTK_CHANNEL_WAIT, {0, 1, 4000000000u}, NTK_BLOCKS},
+    {NTK_CHANNEL_POST | NTK_INTERRUPT, {0, 0x0A0B0C0D, NTK_IN_FRONT}, NTK_DONE},
     {NTK_GROUP_CREATE, {0}, NTK_DONE},
     {NTK_GROUP_CREATE, {7, 0x80000100u}, NTK_DONE},
     {NTK_GROUP_WAIT, {7, 1, 5, 0x40000002, NTK_ANY_SET, 1}, NTK_BLOCKS},
@@ -100,6 +113,7 @@ static void play(void)
         struct ntk_outcome o = ntk_step(c->kind, c->n[0], c->n[1], c->n[2], c->n[3], c->n[4], c->n[5], table, NTK_IMAGE_SIZE);
         ticks += c->kind == (NTK_TICK | NTK_INTERRUPT);
         expect("the answer of a call", c->kind, (uint32_t)i, c->answer, o.answer);
+        expect("what a call tells further", c->kind, (uint32_t)i, c->kind == NTK_CHANNEL_FLUSH ? 2 : 0, o.further);
         read_all("after a call");
         expect("ntk_running", 0, 0, o.runs, ntk_running(table));
         expect("ntk_tick_count", 0, 0, ticks, ntk_tick_count(table));
@@ -119,6 +133,15 @@ static void after_play(void)
     expect("group 0's flags", 0, 0, 0, ntk_flags_of(table, 0));
     expect("group 7's flags", 0, 7, 0x80000100u, ntk_flags_of(table, 7));
     expect("the flags of no group", 0, 8, NTK_NO_FIELD, ntk_flags_of(table, 8));
+    expect("task 31's message", 0, 31, 0x0A0B0C0D, ntk_message_of(table, 31));
+    expect("task 0's message", 0, 0, 0, ntk_message_of(table, 0));
+    expect("the message of no task", 0, 32, NTK_NO_FIELD, ntk_message_of(table, 32));
+    expect("channel 0's capacity", 0, 0, 2, ntk_read(NTK_FIELD_CHANNEL_CAPACITY, 0, table, NTK_IMAGE_SIZE));
+    expect("channel 0's messages", 0, 0, 0, ntk_read(NTK_FIELD_CHANNEL_HELD, 0, table, NTK_IMAGE_SIZE));
+    expect("channel 15's messages", 0, 15, 2, ntk_read(NTK_FIELD_CHANNEL_HELD, 15, table, NTK_IMAGE_SIZE));
+    expect("channel 15's first message", 0, 15, 4294967295u, ntk_read(NTK_FIELD_MESSAGE, NTK_MESSAGE(15, 0), table, NTK_IMAGE_SIZE));
+    expect("channel 15's second message", 0, 15, 0x04030201, ntk_read(NTK_FIELD_MESSAGE, NTK_MESSAGE(15, 1), table, NTK_IMAGE_SIZE));
+    expect("what stands behind it", 0, 15, 0, ntk_read(NTK_FIELD_MESSAGE, NTK_MESSAGE(15, 2), table, NTK_IMAGE_SIZE));
     expect("task 31's wait", 0, 31, NTK_GIVEN, ntk_wait_of(table, 31));
     expect("task 5's wait", 0, 5, NTK_DELETED, ntk_wait_of(table, 5));
     expect("the wait of no task", 0, 32, NTK_NO_SUCH_TASK, ntk_wait_of(table, 32));
@@ -164,13 +187,13 @@ static void at_random(void)
 
 static void unknown(void)
 {
-    static const uint32_t far[] = {1312, 1313, 65536, 65567, 2147483648u, 4294967264u, 4294967295u};
+    static const uint32_t far[] = {1824, 1825, 65536, 65567, 2147483648u, 4294967264u, 4294967295u};
     static const size_t lengths[] = {0, 1, 31, NTK_IMAGE_SIZE - 1, NTK_IMAGE_SIZE + 1, 2 * NTK_IMAGE_SIZE};
     uint32_t field, n, bit;
     size_t i, k;
 
     for (field = 0; field < 256; field++) {
-        for (n = 0; n < 1400; n++)
+        for (n = 0; n < 1900; n++)
             read_one("of any number", field, n, NTK_IMAGE_SIZE, decode(field, n, table));
         for (k = 0; k < sizeof far / sizeof far[0]; k++)
             read_one("of a far number", field, far[k], NTK_IMAGE_SIZE, NTK_NO_FIELD);

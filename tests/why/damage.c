@@ -1,6 +1,7 @@
 /* Images out of played tapes, damaged: ntk_why beside ntk_step and beside a plain reading of each rule. damage TAPE.. plays each tape, and at each
  * 1000th call and at its end takes the image: as it is, with each field of each record set to several values, with slots and queues exchanged, with
- * several damages at once, and with a wrong length. Prints what was met; 0 where all is well. */
+ * several damages at once, and with a wrong length. So does it with a table of channels, where of some damages the rule and the record are known
+ * beforehand. Prints what was met; 0 where all is well. */
 #include <stdio.h>
 #include <stdlib.h>
 #include <string.h>
@@ -12,7 +13,8 @@ enum { EVERY = 1000, RULES = 256, DAMAGES = 400 };
 
 /* No bytes break these: their columns have just that width. */
 static const uint32_t unbreakable[] = {
-    NTK_RULE_TASK_QUANTUM, NTK_RULE_TASK_LEFT, NTK_RULE_SEMAPHORE_COUNTS, NTK_RULE_GROUP_FLAGS, NTK_RULE_TICK_RANGE, NTK_RULE_DEFAULT_MOST,
+    NTK_RULE_TASK_QUANTUM, NTK_RULE_TASK_LEFT, NTK_RULE_TASK_MESSAGE, NTK_RULE_SEMAPHORE_COUNTS, NTK_RULE_GROUP_FLAGS, NTK_RULE_MESSAGE_RANGE,
+    NTK_RULE_TICK_RANGE, NTK_RULE_DEFAULT_MOST,
 };
 
 static uint8_t sound[NTK_IMAGE_SIZE], image[NTK_IMAGE_SIZE + 1];
@@ -177,6 +179,83 @@ static void try_all(void)
     try_ticks();
 }
 
+/* ---- channels */
+
+static void make_call(uint8_t kind, uint32_t a, uint32_t b, uint32_t c, uint32_t want)
+{
+    uint32_t answer = ntk_step(kind, a, b, c, 0, 0, 0, sound, sizeof sound).answer;
+
+    if (answer == want)
+        return;
+    printf("why: kind 0x%02X is answered %lu\n", kind, (unsigned long)answer);
+    wrong++;
+}
+
+/* Task 1 waits for channel 0, channel 7 holds two of three messages, and channel 15 is full. */
+static void make_channels(void)
+{
+    uint32_t i;
+
+    if (ntk_fresh(sound, sizeof sound) != NTK_DONE)
+        wrong++;
+    make_call(NTK_TASK_CREATE, 1, 10, 5, NTK_DONE);
+    make_call(NTK_CHANNEL_CREATE, 0, 1, 0, NTK_DONE);
+    make_call(NTK_CHANNEL_CREATE, 7, 3, 0, NTK_DONE);
+    make_call(NTK_CHANNEL_CREATE, 15, 32, 0, NTK_DONE);
+    make_call(NTK_CHANNEL_POST, 7, 70, NTK_AT_END, NTK_DONE);
+    make_call(NTK_CHANNEL_POST, 7, 71, NTK_AT_END, NTK_DONE);
+    for (i = 0; i < NTK_MOST_MESSAGES; i++)
+        make_call(NTK_CHANNEL_POST, 15, i, NTK_AT_END, NTK_DONE);
+    make_call(NTK_CHANNEL_WAIT, 0, NTK_MAY_BLOCK, 9, NTK_BLOCKS);
+}
+
+/* A field set to a value, and what is broken by it. */
+static const struct known {
+    uint32_t field, number, value;
+    struct ntk_reason reason;
+} known[] = {
+    {NTK_FIELD_TASK_STATE, 1, 6, {NTK_RULE_TASK_STATE, 1}},
+    {NTK_FIELD_TASK_OBJECT, 1, 16, {NTK_RULE_TASK_OBJECT, 1}},
+    {NTK_FIELD_TASK_OBJECT, 1, 3, {NTK_RULE_WAIT_USED, 1}},
+    {NTK_FIELD_TASK_MESSAGE, 1, 4294967295u, {NTK_RULE_NONE, 0}},
+    {NTK_FIELD_TASK_MESSAGE, 2, 0x80000000u, {NTK_RULE_TASK_FREE, 2}},
+    {NTK_FIELD_CHANNEL_USED, 7, 2, {NTK_RULE_CHANNEL_USED, 7}},
+    {NTK_FIELD_CHANNEL_USED, 7, 0, {NTK_RULE_CHANNEL_FREE, 7}},
+    {NTK_FIELD_CHANNEL_USED, 1, 1, {NTK_RULE_CHANNEL_ROOM, 1}},
+    {NTK_FIELD_CHANNEL_CAPACITY, 7, 33, {NTK_RULE_CHANNEL_CAPACITY, 7}},
+    {NTK_FIELD_CHANNEL_CAPACITY, 7, 32, {NTK_RULE_NONE, 0}},
+    {NTK_FIELD_CHANNEL_CAPACITY, 7, 1, {NTK_RULE_CHANNEL_HELD, 7}},
+    {NTK_FIELD_CHANNEL_HELD, 0, 1, {NTK_RULE_WAIT_NOTHING, 1}},
+    {NTK_FIELD_CHANNEL_HELD, 7, 1, {NTK_RULE_MESSAGE_UNUSED, NTK_MESSAGE(7, 1)}},
+    {NTK_FIELD_CHANNEL_HELD, 7, 3, {NTK_RULE_NONE, 0}},
+    {NTK_FIELD_CHANNEL_HELD, 15, 33, {NTK_RULE_CHANNEL_HELD, 15}},
+    {NTK_FIELD_MESSAGE, NTK_MESSAGE(7, 1), 4294967295u, {NTK_RULE_NONE, 0}},
+    {NTK_FIELD_MESSAGE, NTK_MESSAGE(7, 2), 1, {NTK_RULE_MESSAGE_UNUSED, NTK_MESSAGE(7, 2)}},
+    {NTK_FIELD_MESSAGE, NTK_MESSAGE(14, 31), 0x80000000u, {NTK_RULE_MESSAGE_UNUSED, NTK_MESSAGE(14, 31)}},
+    {NTK_FIELD_MESSAGE, NTK_MESSAGE(15, 31), 0, {NTK_RULE_NONE, 0}},
+    {NTK_FIELD_QUEUE_SLOT, NTK_SLOT(NTK_CHANNEL_QUEUE(0), 0), 0, {NTK_RULE_QUEUE_PLACES, NTK_SLOT(NTK_CHANNEL_QUEUE(0), 1)}},
+    {NTK_FIELD_QUEUE_SLOT, NTK_SLOT(NTK_CHANNEL_QUEUE(15), 31), 33, {NTK_RULE_QUEUE_NOTHING_ELSE, NTK_SLOT(NTK_CHANNEL_QUEUE(15), 31)}},
+};
+
+static void try_channels(void)
+{
+    size_t i;
+
+    make_channels();
+    try_all();
+    for (i = 0; i < sizeof known / sizeof *known; i++) {
+        struct ntk_reason reason;
+
+        put(column_of(known[i].field), known[i].number, known[i].value);
+        try_image();
+        reason = ntk_why(image, NTK_IMAGE_SIZE);
+        expect("another rule is known to be broken", reason.rule == known[i].reason.rule && reason.number == known[i].reason.number, reason);
+        memcpy(image, sound, sizeof sound);
+    }
+}
+
+/* ---- tapes */
+
 static void play(const char *name)
 {
     FILE *file = fopen(name, "rb");
@@ -237,6 +316,7 @@ int main(int count, char **names)
 
     for (i = 1; i < count; i++)
         play(names[i]);
+    try_channels();
     try_lengths();
     tell_met();
     return wrong != 0;

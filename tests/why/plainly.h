@@ -4,7 +4,7 @@
 
 #include "../port/decode.h"
 
-enum { SLOTS_FROM = 872 }; /* of queue 0 */
+enum { SLOTS_FROM = 1048 }; /* of queue 0 */
 
 static uint32_t of(uint32_t field, uint32_t number, const uint8_t *image)
 {
@@ -29,6 +29,7 @@ static uint32_t place(uint32_t task, const uint8_t *image)
     case NTK_WAITS_SEMAPHORE: return NTK_SEMAPHORE_QUEUE(object);
     case NTK_WAITS_MUTEX: return NTK_MUTEX_QUEUE(object);
     case NTK_WAITS_FLAGS: return NTK_GROUP_QUEUE(object);
+    case NTK_WAITS_MESSAGE: return NTK_CHANNEL_QUEUE(object);
     default: return NTK_QUEUES;
     }
 }
@@ -68,9 +69,9 @@ static int kept_by_task(uint32_t rule, uint32_t i, const uint8_t *image)
     case NTK_RULE_TASK_BASE: return of(NTK_FIELD_TASK_BASE, i, image) <= 62;
     case NTK_RULE_TASK_WORK: return of(NTK_FIELD_TASK_WORK, i, image) <= 62;
     case NTK_RULE_TASK_SUSPEND: return of(NTK_FIELD_TASK_SUSPEND, i, image) <= 250;
-    case NTK_RULE_TASK_STATE: return state <= NTK_WAITS_FLAGS;
+    case NTK_RULE_TASK_STATE: return state <= NTK_WAITS_MESSAGE;
     case NTK_RULE_TASK_OBJECT:
-        return object < (state == NTK_WAITS_SEMAPHORE || state == NTK_WAITS_MUTEX ? 16u : flags ? 8u : 1u);
+        return object < (flags ? 8u : state >= NTK_WAITS_SEMAPHORE && state <= NTK_WAITS_MESSAGE ? 16u : 1u);
     case NTK_RULE_TASK_MARKED: return marked <= 1;
     case NTK_RULE_TASK_DUE: return marked != 0 || due == 0;
     case NTK_RULE_TASK_OUTCOME: return of(NTK_FIELD_TASK_OUTCOME, i, image) <= 3;
@@ -78,7 +79,7 @@ static int kept_by_task(uint32_t rule, uint32_t i, const uint8_t *image)
     case NTK_RULE_TASK_TEST: return of(NTK_FIELD_TASK_TEST, i, image) <= (flags ? 3u : 0u);
     case NTK_RULE_TASK_CONSUME: return of(NTK_FIELD_TASK_CONSUME, i, image) <= (flags ? 1u : 0u);
     case NTK_RULE_TASK_FREE:
-        for (field = NTK_FIELD_TASK_IN_USE; use == 0 && field <= NTK_FIELD_TASK_CONSUME; field++)
+        for (field = NTK_FIELD_TASK_IN_USE; use == 0 && field <= NTK_FIELD_TASK_MESSAGE; field++)
             if (of(field, i, image) != 0)
                 return 0;
         return 1;
@@ -115,18 +116,50 @@ static int kept_by_object(uint32_t rule, uint32_t i, const uint8_t *image)
     }
 }
 
+static int kept_by_channel(uint32_t rule, uint32_t i, const uint8_t *image)
+{
+    uint32_t use = of(NTK_FIELD_CHANNEL_USED, i, image), capacity = of(NTK_FIELD_CHANNEL_CAPACITY, i, image);
+    uint32_t held = of(NTK_FIELD_CHANNEL_HELD, i, image);
+
+    switch (rule) {
+    case NTK_RULE_CHANNEL_USED: return use <= 1;
+    case NTK_RULE_CHANNEL_CAPACITY: return capacity <= 32;
+    case NTK_RULE_CHANNEL_HELD: return held <= capacity;
+    case NTK_RULE_CHANNEL_FREE: return use != 0 || (capacity == 0 && held == 0);
+    case NTK_RULE_CHANNEL_ROOM: return use != 1 || capacity != 0;
+    default: return 1;
+    }
+}
+
+/* Slot j of channel c is number 32 c + j. */
+static int kept_by_message(uint32_t rule, uint32_t n, const uint8_t *image)
+{
+    if (rule != NTK_RULE_MESSAGE_UNUSED)
+        return 1;
+    return n % 32 < of(NTK_FIELD_CHANNEL_HELD, n / 32, image) || of(NTK_FIELD_MESSAGE, n, image) == 0;
+}
+
+/* Whether what a task in this state waits for has something to take: flags are there for each waiter to test. */
+static int offers(uint32_t state, uint32_t object, const uint8_t *image)
+{
+    switch (state) {
+    case NTK_WAITS_SEMAPHORE: return of(NTK_FIELD_SEMAPHORE_COUNT, object, image) != 0;
+    case NTK_WAITS_MUTEX: return of(NTK_FIELD_MUTEX_HOLDER, object, image) == 0;
+    case NTK_WAITS_MESSAGE: return of(NTK_FIELD_CHANNEL_HELD, object, image) != 0;
+    default: return 0;
+    }
+}
+
 static int kept_by_waiter(uint32_t rule, uint32_t i, const uint8_t *image)
 {
-    static const uint32_t uses[] = {NTK_FIELD_SEMAPHORE_IN_USE, NTK_FIELD_MUTEX_IN_USE, NTK_FIELD_GROUP_IN_USE};
+    static const uint32_t uses[] = {NTK_FIELD_SEMAPHORE_IN_USE, NTK_FIELD_MUTEX_IN_USE, NTK_FIELD_GROUP_IN_USE, NTK_FIELD_CHANNEL_USED};
     uint32_t state = of(NTK_FIELD_TASK_STATE, i, image), object = of(NTK_FIELD_TASK_OBJECT, i, image);
 
-    if (state < NTK_WAITS_SEMAPHORE || state > NTK_WAITS_FLAGS)
+    if (state < NTK_WAITS_SEMAPHORE || state > NTK_WAITS_MESSAGE)
         return 1;
     switch (rule) {
     case NTK_RULE_WAIT_USED: return of(uses[state - NTK_WAITS_SEMAPHORE], object, image) == 1;
-    case NTK_RULE_WAIT_NOTHING:
-        return state == NTK_WAITS_SEMAPHORE ? of(NTK_FIELD_SEMAPHORE_COUNT, object, image) == 0
-                                            : state != NTK_WAITS_MUTEX || of(NTK_FIELD_MUTEX_HOLDER, object, image) != 0;
+    case NTK_RULE_WAIT_NOTHING: return !offers(state, object, image);
     case NTK_RULE_WAIT_APART: return next(i, image) != i;
     default: return 1;
     }
@@ -171,9 +204,11 @@ static uint32_t records(uint32_t rule)
         return 1;
     if (rule >= 0x90 && rule < 0xA0)
         return NTK_QUEUES * NTK_TASKS;
-    if ((rule >= 0x20 && rule < 0x40) || rule == NTK_RULE_HOLDER_USED)
-        return 16;
-    return rule >= 0x40 && rule < 0x80 ? NTK_GROUPS : NTK_TASKS;
+    if (rule == NTK_RULE_MESSAGE_RANGE || rule == NTK_RULE_MESSAGE_UNUSED)
+        return NTK_CHANNELS * NTK_MOST_MESSAGES;
+    if (rule >= 0x40 && rule < 0x50)
+        return NTK_GROUPS;
+    return (rule >= 0x20 && rule < 0x80) || rule == NTK_RULE_HOLDER_USED ? 16 : NTK_TASKS;
 }
 
 /* Whether the record keeps the rule. */
@@ -185,7 +220,11 @@ static int kept_plainly(uint32_t rule, uint32_t number, const uint8_t *image)
         return kept_by_numbers(rule, image);
     if (rule >= 0x90 && rule < 0xA0)
         return kept_by_slot(rule, number, image);
-    if ((rule >= 0x20 && rule < 0x80) || rule == NTK_RULE_HOLDER_USED)
+    if (rule == NTK_RULE_MESSAGE_RANGE || rule == NTK_RULE_MESSAGE_UNUSED)
+        return kept_by_message(rule, number, image);
+    if (rule >= 0x50 && rule < 0x80)
+        return kept_by_channel(rule, number, image);
+    if ((rule >= 0x20 && rule < 0x50) || rule == NTK_RULE_HOLDER_USED)
         return kept_by_object(rule, number, image);
     if (rule >= 0x80 && rule < 0x90)
         return kept_by_waiter(rule, number, image);

@@ -5,6 +5,7 @@ from shapes import BOOL, BYTE, INTEGERS, LENGTH, POINTER, SLICE, UNIT, c_name, d
 EXPORTED = "ntk_"   # how the last part of an exported function's name begins; the header declares it
 OPERATORS = {"add": "+", "sub": "-", "mul": "*", "div": "/", "rem": "%", "and": "&", "or": "|", "xor": "^"}
 COMPARISONS = {"lt": "<", "le": "<=", "eq": "==", "ne": "!="}
+ZEROS = ("0u", "UINT32_C(0)", "UINT64_C(0)")
 OF_BOOLEANS = ("and", "or", "xor", "eq", "ne")
 RESULT_IS_UNIT = ["assign", ["place", "0", "lnil"], ["rvOpd", "unit"]]
 
@@ -88,8 +89,17 @@ class Function:
     def on_assign(self, place, value):
         to, c_type, local = self.place_to_set(place)
         text = self.rvalue(value, c_type)
-        if c_type != UNIT:
+        if self.is_zero(value, c_type):
+            for (member, of) in self.types.fields[c_type]:
+                self.say("%s.%s = 0;" % (to, member), local)
+        elif c_type != UNIT:
             self.say("%s = %s;" % (to, text), local)
+
+    def is_zero(self, value, c_type):
+        """A struct of zeros alone. It is set field by field: where it has 32 bytes, as a task has, gcc calls memset for it otherwise."""
+        fields = self.types.fields.get(c_type)
+        return bool(fields and not is_union(c_type) and c_type not in self.types.arrays and name_of(value) == "aggregate"
+                    and all(self.operand(given, t) in ZEROS for given, (_, t) in zip(items(value[1]), fields)))
 
     def on_if(self, on, yes, no):
         text = self.operand(on, BOOL)

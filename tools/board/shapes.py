@@ -16,7 +16,7 @@ PLAIN = {"tyBool": BOOL, "tyUnit": UNIT, "tyPtr": POINTER, "tyRef": POINTER}
 
 # Types that the header declares, with the names of their fields.
 OF_HEADER = {
-    "port::NtkOutcome": ("struct ntk_outcome", ("answer", "runs")),
+    "port::NtkOutcome": ("struct ntk_outcome", ("answer", "further", "runs")),
     "port::reasons::NtkReason": ("struct ntk_reason", ("rule", "number")),
 }
 

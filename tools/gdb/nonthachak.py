@@ -25,26 +25,32 @@ COLUMNS = [
     (384, 2, 32, "task left"),
     (448, 4, 32, "task due"),
     (576, 4, 32, "task mask"),
-    (704, 1, 16, "semaphore used"),
-    (720, 4, 16, "semaphore count"),
-    (784, 1, 16, "mutex used"),
-    (800, 1, 16, "mutex holder"),
-    (816, 1, 16, "mutex nesting"),
-    (832, 1, 8, "group used"),
-    (840, 4, 8, "group flags"),
-    (872, 32, 41, "queue"),
-    (2184, 4, 1, "tick"),
-    (2188, 2, 1, "default quantum"),
-    (2190, 1, 1, "depth"),
-    (2191, 1, 1, "running"),
+    (704, 4, 32, "task message"),
+    (832, 1, 16, "semaphore used"),
+    (848, 4, 16, "semaphore count"),
+    (912, 1, 16, "mutex used"),
+    (928, 1, 16, "mutex holder"),
+    (944, 1, 16, "mutex nesting"),
+    (960, 1, 8, "group used"),
+    (968, 4, 8, "group flags"),
+    (1000, 1, 16, "channel used"),
+    (1016, 1, 16, "channel capacity"),
+    (1032, 1, 16, "channel held"),
+    (1048, 32, 57, "queue"),
+    (2872, 4, 1, "tick"),
+    (2876, 2, 1, "default quantum"),
+    (2878, 1, 1, "depth"),
+    (2879, 1, 1, "running"),
+    (2880, 128, 16, "channel messages"),
 ]
 SIZE = COLUMNS[-1][0] + COLUMNS[-1][1] * COLUMNS[-1][2]
 
 # The queue of number 0 of each kind of object; that of the able tasks is 0.
 ABLE = 0
-QUEUES = {"semaphore": 1, "mutex": 17, "group": 33}
+QUEUES = {"semaphore": 1, "mutex": 17, "group": 33, "channel": 41}
+MOST_MESSAGES = 32
 
-STATES = ["plain", "delayed", "semaphore", "mutex", "group"]
+STATES = ["plain", "delayed", "semaphore", "mutex", "group", "channel"]
 OUTCOMES = ["given", "timed out", "aborted", "deleted"]
 TESTS = ["all set", "any set", "all clear", "any clear"]
 
@@ -84,6 +90,14 @@ class Image:
         slots = self.bytes_of("queue", number).rstrip(b"\0")
         return " ".join("-" if s == 0 else str(s - 1) if s <= 32 else "%d?" % s for s in slots) or "-"
 
+    def messages(self, number):
+        """Those that a channel holds, the next first; behind them what stands in a slot that should be 0."""
+        held, slots = self.get("channel held", number), self.bytes_of("channel messages", number)
+        words = [int.from_bytes(slots[at : at + 4], "little") for at in range(0, len(slots), 4)]
+        while len(words) > held and words[-1] == 0:
+            words.pop()
+        return " ".join("%d%s" % (word, "" if slot < held else "?") for slot, word in enumerate(words)) or "-"
+
     def numbers(self, owner):
         """Each number of a kind that is in use or has a field that is not 0, as it is printed."""
         fields = [what for what in self.places if what.split()[0] == owner and " " in what]
@@ -111,7 +125,8 @@ def task_row(image, number, shown):
     due = image.get("task due", number) if image.get("task marked", number) else "-"
     fields = [image.get("task " + what, number) for what in ("base", "work", "suspend")]
     fields += [image.quantum("task quantum", number, image.get("task used", number)), image.get("task left", number)]
-    return [shown] + fields + [due, state_of(image, number), named(OUTCOMES, image.get("task outcome", number))]
+    fields += [due, image.get("task message", number)]
+    return [shown] + fields + [state_of(image, number), named(OUTCOMES, image.get("task outcome", number))]
 
 
 def semaphore_row(image, number, shown):
@@ -126,12 +141,20 @@ def group_row(image, number, shown):
     return [shown, "0x%08x" % image.get("group flags", number), image.queue(QUEUES["group"] + number)]
 
 
+def channel_row(image, number, shown):
+    capacity, held = (image.get("channel " + what, number) for what in ("capacity", "held"))
+    right = capacity <= MOST_MESSAGES and (capacity > 0 or image.get("channel used", number) != 1)
+    fields = ["%d%s" % (capacity, "" if right else "?"), "%d%s" % (held, "" if held <= capacity else "?")]
+    return [shown] + fields + [image.messages(number), image.queue(QUEUES["channel"] + number)]
+
+
 # A kind, the heads of its columns, how many of them are numbers and stand to the right, and its row.
 SECTIONS = [
-    ("task", ["task", "base", "work", "suspended", "quantum", "left", "due", "state", "last wait"], 7, task_row),
+    ("task", ["task", "base", "work", "suspended", "quantum", "left", "due", "message", "state", "last wait"], 8, task_row),
     ("semaphore", ["semaphore", "count", "waiters"], 2, semaphore_row),
     ("mutex", ["mutex", "holder", "nesting", "waiters"], 3, mutex_row),
     ("group", ["group", "flags", "waiters"], 2, group_row),
+    ("channel", ["channel", "capacity", "held", "messages", "waiters"], 3, channel_row),
 ]
 
 
@@ -181,8 +204,9 @@ class Nonthachak(gdb.Command):
     """Print the kernel's table: nonthachak IMAGE.
 
 IMAGE is the array of bytes that the port has, or its address. The state is plain, delayed, or the object that the task waits for, of a
-group with the flags, the test and whether it consumes them. Queues have the most urgent first. A ? stands at what a sound table cannot
-hold: a byte beyond its values, which is printed as it stands, or a number that is not in use and has fields or waiters."""
+group with the flags, the test and whether it consumes them. Queues have the most urgent first, channels (message queues) the message that
+is taken next. A ? stands at what a sound table cannot hold: a number beyond its values, which is printed as it stands, or one that is not
+in use and has fields, messages or waiters."""
 
     def __init__(self):
         super().__init__("nonthachak", gdb.COMMAND_DATA, gdb.COMPLETE_EXPRESSION)

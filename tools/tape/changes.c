@@ -60,6 +60,7 @@ static void say_state(struct line *line, const uint32_t *v)
         [NTK_WAITS_SEMAPHORE] = "waits for semaphore",
         [NTK_WAITS_MUTEX] = "waits for mutex",
         [NTK_WAITS_FLAGS] = "waits for group",
+        [NTK_WAITS_MESSAGE] = "waits for channel",
     };
 
     line_add(line, "%s", v[0] < COUNT(states) ? states[v[0]] : "in an unknown state");
@@ -109,6 +110,7 @@ static const struct trait task_traits[] = {
      say_state},
     {"", 2, {NTK_FIELD_TASK_MARKED, NTK_FIELD_TASK_DUE}, say_due},
     {"last wait ", 1, {NTK_FIELD_TASK_OUTCOME}, say_outcome},
+    {"message ", 1, {NTK_FIELD_TASK_MESSAGE}, say_number},
 };
 
 static const struct trait semaphore_traits[] = {
@@ -127,12 +129,19 @@ static const struct trait group_traits[] = {
     {"flags ", 1, {NTK_FIELD_GROUP_FLAGS}, say_hex},
 };
 
+/* How many messages it holds is told with the messages. */
+static const struct trait channel_traits[] = {
+    {"", 1, {NTK_FIELD_CHANNEL_USED}, say_use},
+    {"capacity ", 1, {NTK_FIELD_CHANNEL_CAPACITY}, say_number},
+};
+
 /* The tasks have one queue together, that of the able ones. */
 static const struct family families[] = {
     {"task", NTK_TASKS, NTK_ABLE_QUEUE, COUNT(task_traits), task_traits},
     {"semaphore", NTK_SEMAPHORES, NTK_SEMAPHORE_QUEUE(0), COUNT(semaphore_traits), semaphore_traits},
     {"mutex", NTK_MUTEXES, NTK_MUTEX_QUEUE(0), COUNT(mutex_traits), mutex_traits},
     {"group", NTK_GROUPS, NTK_GROUP_QUEUE(0), COUNT(group_traits), group_traits},
+    {"channel", NTK_CHANNELS, NTK_CHANNEL_QUEUE(0), COUNT(channel_traits), channel_traits},
 };
 
 static const struct trait singles[] = {
@@ -199,6 +208,8 @@ static void write_member(FILE *out, const struct family *family, uint32_t number
     write_what(out, family->name, number, &what);
 }
 
+/* ---- rows: queues and messages */
+
 static void add_queue(struct line *line, const uint8_t *image, uint32_t queue)
 {
     uint64_t entry;
@@ -210,12 +221,25 @@ static void add_queue(struct line *line, const uint8_t *image, uint32_t queue)
         line_add(line, "empty");
 }
 
-static void write_queue(FILE *out, const char *whose, const uint8_t *before, const uint8_t *after, uint32_t queue)
+static void add_messages(struct line *line, const uint8_t *image, uint32_t channel)
+{
+    uint64_t held = ntk_read(NTK_FIELD_CHANNEL_HELD, channel, image, NTK_IMAGE_SIZE);
+    uint32_t j;
+
+    for (j = 0; j < held; j++)
+        line_add(line, "%s%lu", j ? " " : "", (unsigned long)ntk_read(NTK_FIELD_MESSAGE, NTK_MESSAGE(channel, j), image, NTK_IMAGE_SIZE));
+    if (j == 0)
+        line_add(line, "empty");
+}
+
+/* The row with a number, as `add` has it, where it changed. */
+static void write_row(FILE *out, const char *whose, const uint8_t *before, const uint8_t *after,
+                      void (*add)(struct line *, const uint8_t *, uint32_t), uint32_t number)
 {
     struct line old = {0}, new = {0}, line = {0};
 
-    add_queue(&old, before, queue);
-    add_queue(&new, after, queue);
+    add(&old, before, number);
+    add(&new, after, number);
     if (strcmp(old.text, new.text) == 0)
         return;
     line_add(&line, "          %s: %s (was %s)", whose, new.text, old.text);
@@ -227,14 +251,26 @@ static void write_queues(FILE *out, const uint8_t *before, const uint8_t *after)
     size_t i;
     uint32_t n;
 
-    write_queue(out, "able", before, after, NTK_ABLE_QUEUE);
+    write_row(out, "able", before, after, add_queue, NTK_ABLE_QUEUE);
     for (i = 1; i < COUNT(families); i++)
         for (n = 0; n < families[i].members; n++) {
             struct line whose = {0};
 
             line_add(&whose, "waiters of %s %lu", families[i].name, (unsigned long)n);
-            write_queue(out, whose.text, before, after, families[i].first_queue + n);
+            write_row(out, whose.text, before, after, add_queue, families[i].first_queue + n);
         }
+}
+
+static void write_messages(FILE *out, const uint8_t *before, const uint8_t *after)
+{
+    uint32_t n;
+
+    for (n = 0; n < NTK_CHANNELS; n++) {
+        struct line whose = {0};
+
+        line_add(&whose, "messages of channel %lu", (unsigned long)n);
+        write_row(out, whose.text, before, after, add_messages, n);
+    }
 }
 
 void write_changes(FILE *out, const uint8_t *before, const uint8_t *after)
@@ -249,6 +285,7 @@ void write_changes(FILE *out, const uint8_t *before, const uint8_t *after)
         for (n = 0; n < families[i].members; n++)
             write_member(out, &families[i], n, before, after);
     write_queues(out, before, after);
+    write_messages(out, before, after);
     for (i = 0; i < COUNT(singles); i++)
         add_change(&what, &singles[i], 0, before, after, 1);
     if (what.length == 0)

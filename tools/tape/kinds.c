@@ -13,11 +13,14 @@ static const struct form ticks = {.name = "ticks", .width = 4, .unit = "tick"};
 static const struct form count = {.name = "count", .width = 4, .labelled = 1};
 static const struct form flags = {.name = "flags", .width = 4, .labelled = 1, .hex = 1};
 static const struct form mask = {.name = "mask", .width = 4, .labelled = 1, .hex = 1};
+static const struct form capacity = {.name = "capacity", .width = 1, .labelled = 1};
+static const struct form message = {.name = "message", .width = 4, .labelled = 1};
 static const struct form limit = {
     .name = "limit", .width = 4, .labelled = 1, .before = "for at most ", .unit = "tick", .values = {{"forever", "for ever"}}};
 static const struct form block = {.name = "block", .width = 1, .values = {{"noblock", "not blocking"}, {"block", "blocking"}}};
 static const struct form force = {.name = "force", .width = 1, .values = {{"unforced", "unforced"}, {"forced", "forced"}}};
 static const struct form on = {.name = "on", .width = 1, .values = {{"clear", "cleared"}, {"set", "set"}}};
+static const struct form front = {.name = "front", .width = 1, .values = {{"end", "at the end"}, {"front", "in front"}}};
 const struct form form_test = {
     .name = "test",
     .width = 1,
@@ -55,6 +58,12 @@ const struct kind kinds[] = {
      {&number, &block, &limit, &mask, &form_test, &form_consume}},
     {NTK_GROUP_POST, "group_post", "post group %, flags % %", {&number, &mask, &on}},
     {NTK_GROUP_ABORT, "group_abort", "abort the first wait for group %", {&number}},
+    {NTK_CHANNEL_CREATE, "channel_create", "create channel %, capacity %", {&number, &capacity}},
+    {NTK_CHANNEL_DELETE, "channel_delete", "delete channel %, %", {&number, &force}},
+    {NTK_CHANNEL_WAIT, "channel_wait", "wait for channel %, %, %", {&number, &block, &limit}},
+    {NTK_CHANNEL_POST, "channel_post", "post channel %, message % %", {&number, &message, &front}},
+    {NTK_CHANNEL_ABORT, "channel_abort", "abort the first wait for channel %", {&number}},
+    {NTK_CHANNEL_FLUSH, "channel_flush", "flush channel %", {&number}},
 };
 const size_t kind_count = sizeof kinds / sizeof *kinds;
 

@@ -55,6 +55,8 @@ static void write_call(FILE *out, const struct reel *reel, const struct call *ca
     call_words(&line, call);
     pad(&line, ANSWER);
     line_add(&line, "%lu %s", (unsigned long)outcome.answer, ntk_answer_name(outcome.answer));
+    if (outcome.further > 0)
+        line_add(&line, ", %lu message%s", (unsigned long)outcome.further, outcome.further == 1 ? "" : "s");
     pad(&line, RUNS);
     add_task(&line, outcome.runs, "none");
     write_line(out, line.text);

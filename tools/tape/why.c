@@ -29,6 +29,7 @@ static const struct shown task_fields[] = {
     {NTK_FIELD_TASK_MASK, "mask"},
     {NTK_FIELD_TASK_TEST, "test"},
     {NTK_FIELD_TASK_CONSUME, "consume"},
+    {NTK_FIELD_TASK_MESSAGE, "message"},
 };
 
 static const struct shown semaphore_fields[] = {{NTK_FIELD_SEMAPHORE_IN_USE, "in use"}, {NTK_FIELD_SEMAPHORE_COUNT, "count"}};
@@ -40,6 +41,12 @@ static const struct shown mutex_fields[] = {
 };
 
 static const struct shown group_fields[] = {{NTK_FIELD_GROUP_IN_USE, "in use"}, {NTK_FIELD_GROUP_FLAGS, "flags"}};
+
+static const struct shown channel_fields[] = {
+    {NTK_FIELD_CHANNEL_USED, "in use"},
+    {NTK_FIELD_CHANNEL_CAPACITY, "capacity"},
+    {NTK_FIELD_CHANNEL_HELD, "messages held"},
+};
 
 static const struct shown single_fields[] = {
     {NTK_FIELD_TICK, "tick counter"},
@@ -59,6 +66,7 @@ static const struct owner {
     {NTK_RULE_SEMAPHORE_USED, NTK_RULE_SEMAPHORE_FREE, "semaphore", semaphore_fields, COUNT(semaphore_fields)},
     {NTK_RULE_MUTEX_USED, NTK_RULE_MUTEX_HELD, "mutex", mutex_fields, COUNT(mutex_fields)},
     {NTK_RULE_GROUP_USED, NTK_RULE_GROUP_FREE, "group", group_fields, COUNT(group_fields)},
+    {NTK_RULE_CHANNEL_USED, NTK_RULE_CHANNEL_ROOM, "channel", channel_fields, COUNT(channel_fields)},
     {NTK_RULE_WAIT_USED, NTK_RULE_WAIT_APART, "task", task_fields, COUNT(task_fields)},
     {NTK_RULE_HOLDER_USED, NTK_RULE_HOLDER_USED, "mutex", mutex_fields, COUNT(mutex_fields)},
     {NTK_RULE_TASK_WORKED, NTK_RULE_TASK_NOT_DUE, "task", task_fields, COUNT(task_fields)},
@@ -73,8 +81,10 @@ static void add_queue_name(struct line *line, unsigned long queue)
         line_add(line, "the queue of semaphore %lu", queue - NTK_SEMAPHORE_QUEUE(0));
     else if (queue < NTK_GROUP_QUEUE(0))
         line_add(line, "the queue of mutex %lu", queue - NTK_MUTEX_QUEUE(0));
-    else
+    else if (queue < NTK_CHANNEL_QUEUE(0))
         line_add(line, "the queue of group %lu", queue - NTK_GROUP_QUEUE(0));
+    else
+        line_add(line, "the queue of channel %lu", queue - NTK_CHANNEL_QUEUE(0));
 }
 
 static void write_fields(FILE *out, const struct shown *fields, size_t count, uint32_t number, const uint8_t *image)
@@ -88,18 +98,18 @@ static void write_fields(FILE *out, const struct shown *fields, size_t count, ui
     write_line(out, line.text);
 }
 
-/* The slots of a queue up to the last that is filled. */
-static void write_slots(FILE *out, uint32_t queue, const uint8_t *image)
+/* The entries of a field from number `first` on, at most `count`, up to the last that is not 0. */
+static void write_entries(FILE *out, const char *what, uint32_t field, uint32_t first, uint32_t count, const uint8_t *image)
 {
     struct line line = {0};
-    uint32_t j, end = NTK_TASKS;
+    uint32_t j;
 
-    while (end > 0 && ntk_slot_of(image, queue, end - 1) == 0)
-        end--;
-    line_add(&line, "    slots, task plus 1:");
-    for (j = 0; j < end; j++)
-        line_add(&line, " %llu", (unsigned long long)ntk_slot_of(image, queue, j));
-    if (end == 0)
+    while (count > 0 && ntk_read(field, first + count - 1, image, NTK_IMAGE_SIZE) == 0)
+        count--;
+    line_add(&line, "    %s:", what);
+    for (j = 0; j < count; j++)
+        line_add(&line, " %llu", (unsigned long long)ntk_read(field, first + j, image, NTK_IMAGE_SIZE));
+    if (count == 0)
         line_add(&line, " all free");
     write_line(out, line.text);
 }
@@ -121,9 +131,20 @@ static void write_queue_rule(FILE *out, struct ntk_reason reason, const uint8_t 
     line_add(&where, of_task ? "task %lu in " : "slot %lu of ", (unsigned long)slot);
     add_queue_name(&where, queue);
     write_headline(out, where.text, reason.rule);
-    write_slots(out, queue, image);
+    write_entries(out, "slots, task plus 1", NTK_FIELD_QUEUE_SLOT, NTK_SLOT(queue, 0), NTK_TASKS, image);
     if (of_task)
         write_fields(out, task_fields, COUNT(task_fields), slot, image);
+}
+
+static void write_message_rule(FILE *out, struct ntk_reason reason, const uint8_t *image)
+{
+    uint32_t channel = NTK_CHANNEL_AT(reason.number);
+    struct line where = {0};
+
+    line_add(&where, "slot %lu of channel %lu", (unsigned long)NTK_MESSAGE_AT(reason.number), (unsigned long)channel);
+    write_headline(out, where.text, reason.rule);
+    write_fields(out, channel_fields, COUNT(channel_fields), channel, image);
+    write_entries(out, "messages", NTK_FIELD_MESSAGE, NTK_MESSAGE(channel, 0), NTK_MOST_MESSAGES, image);
 }
 
 static void write_reason(FILE *out, struct ntk_reason reason, const uint8_t *image)
@@ -142,7 +163,10 @@ static void write_reason(FILE *out, struct ntk_reason reason, const uint8_t *ima
         write_fields(out, o->fields, o->count, reason.number, image);
         return;
     }
-    write_queue_rule(out, reason, image);
+    if (reason.rule == NTK_RULE_MESSAGE_RANGE || reason.rule == NTK_RULE_MESSAGE_UNUSED)
+        write_message_rule(out, reason, image);
+    else
+        write_queue_rule(out, reason, image);
 }
 
 static void write_wrong_length(FILE *out, size_t length)

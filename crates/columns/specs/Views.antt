@@ -54,7 +54,7 @@ withRow K j (v ∷ vs) x = withRow K (suc j) vs (withField K j v x)
 
 -- ---- one kind
 
-count-long : (cs : List Column) (k : ℕ) (l : List ℕ) → length (getD (columns cs l) k []) ≡ columnOf cs k .count
+pub count-long : (cs : List Column) (k : ℕ) (l : List ℕ) → length (getD (columns cs l) k []) ≡ columnOf cs k .count
 count-long cs k l = rw (columns-at cs k l) (numbers-long (columnOf cs k .width) (columnOf cs k .count) (drop (offset cs k) l))
 
 -- What is put is read.

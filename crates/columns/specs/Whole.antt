@@ -65,9 +65,8 @@ module _ (cs : List Column) (t : List (List ℕ)) where
           small i (yes p) = rw (tabulate-at (K .count) (λ i. getD (K .fields (recordAt K xs i)) j 0) i 0 p) (f i p j q)
           small i (no p) = rw (List·getD-eq-default (tabulate (K .count) (λ i. getD (K .fields (recordAt K xs i)) j 0)) 0 {n = i} (omega (arith, tabulate-long (K .count) (λ i. getD (K .fields (recordAt K xs i)) j 0)))) (power (widthIn K cs j))
 
-  -- Columns of bytes.
-  pub fits-run : (a m n : ℕ) → allWide a m 1 cs ≡ true → allLong a m n cs ≡ true → (qs : List (List ℕ)) → length qs ≡ m → Stands a qs t → ((q : ℕ) → q < m → length (getD qs q []) ≡ n) → ((q : ℕ) → q < m → Bytes (getD qs q [])) → FitsBelow a → FitsBelow (a + m)
-  fits-run a m n bytewise even qs e s f b g = fits-next a m (λ q h. rw (s q (omega arith), wide a m n cs bytewise even q h, long a m n cs bytewise even q h) (f q h, b q h)) g
+  pub fits-run : (a m w n : ℕ) → allWide a m w cs ≡ true → allLong a m n cs ≡ true → (qs : List (List ℕ)) → length qs ≡ m → Stands a qs t → ((q : ℕ) → q < m → length (getD qs q []) ≡ n) → ((q : ℕ) → q < m → Below w (getD qs q [])) → FitsBelow a → FitsBelow (a + m)
+  fits-run a m w n even-wide even qs e s f b g = fits-next a m (λ q h. rw (s q (omega arith), wide a m w n cs even-wide even q h, long a m w n cs even-wide even q h) (f q h, b q h)) g
 
   pub fits-one : (k : ℕ) (v : ℕ) → getD t k [] ≡ v ∷ [] → columnOf cs k .count ≡ 1 → v < 256 ^ columnOf cs k .width → FitsBelow k → FitsBelow (k + 1)
   fits-one k v e c f g = fits-next k 1 (λ j h. let z : k + j ≡ k = omega arith in rw (z, e, c) (refl, λ i. small i)) g

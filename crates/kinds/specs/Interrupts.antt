@@ -22,7 +22,7 @@ use Rattle.kinds.specs.Row.{rowOf, row-none, saidIn, row-says}
 unfoldable pub mayMake : ℕ → Bool
 mayMake k = toldOf k (λ r. r .interrupts) false
 
--- "made by an interrupt, and not a tick or a semaphore post", nor a post of flags; a kind that the list lacks among them.
+-- "made by an interrupt, and not a tick or a semaphore post", nor a post of flags or of a message; a kind that the list lacks among them.
 unfoldable pub barred : ℕ → Bool
 barred kind = isInterrupt kind && not (mayMake (plainKind kind))
 
@@ -42,20 +42,20 @@ none-may k l (with {r} {rs} (inl e) rest) = go (eqb k (r .byte)) (none-may k rs 
     go false h = h
 none-may k l (with {r} {rs} (inr d) rest) = rw (ne-eqb k (r .byte) d) (none-may k rs rest)
 
-left-to-tasks : (k : ℕ) → k ≢ 0x0B → k ≢ 0x13 → k ≢ 0x33 → mayMake k ≡ false
+left-to-tasks : (k : ℕ) → k ≢ 0x0B → k ≢ 0x13 → k ≢ 0x33 → k ≢ 0x43 → mayMake k ≡ false
 unfolding mayMake
-left-to-tasks k tick semaphore group = none-may k kinds (search (end, with, inl, inr) depth 60 fits 8000)
+left-to-tasks k tick semaphore group channel = none-may k kinds (search (end, with, inl, inr) depth 80 fits 12000)
 
 -- Such a byte stays as it is.
-pub let-in-else : (kind : ℕ) → kind ≢ 0x8B → kind ≢ 0x93 → kind ≢ 0xB3 → kind ≡ letIn kind
+pub let-in-else : (kind : ℕ) → kind ≢ 0x8B → kind ≢ 0x93 → kind ≢ 0xB3 → kind ≢ 0xC3 → kind ≡ letIn kind
 unfolding barred letIn
-let-in-else kind tick semaphore group = go (isInterrupt kind) refl
+let-in-else kind tick semaphore group channel = go (isInterrupt kind) refl
   where
     go : (b : Bool) → isInterrupt kind ≡ b → kind ≡ cond (b && not (mayMake (cond b (kind - 0x80) kind))) kind (cond b (kind - 0x80) kind)
     go false e = refl
     go true e =
         let h : 0x80 ≤ kind = leb-true 0x80 kind e in
-        rw (left-to-tasks (kind - 0x80) (λ z. tick (omega arith)) (λ z. semaphore (omega arith)) (λ z. group (omega arith)))
+        rw (left-to-tasks (kind - 0x80) (λ z. tick (omega arith)) (λ z. semaphore (omega arith)) (λ z. group (omega arith)) (λ z. channel (omega arith)))
 
 -- ---- the list and the calls agree
 
@@ -77,7 +77,7 @@ module _ (k : ℕ) (n : ℕ → ℕ) (interrupt : Bool) where
 
 each-agrees : (n : ℕ → ℕ) → Each (λ r. r .interrupts ≡ forInterrupts (r .call n)) kinds
 unfolding toldIn spelled forInterrupts
-each-agrees n = search (end, with) depth 60 fits 8000
+each-agrees n = search (end, with) depth 80 fits 12000
 
 pub reading-agrees : (kind : ℕ) (numbers : List ℕ) → Agrees (isInterrupt kind) (mayMake (plainKind kind)) (reading kind numbers)
 unfolding mayMake ofKind reading
@@ -87,7 +87,7 @@ reading-agrees kind numbers = agree-in (plainKind kind) (λ i. getD numbers i 0)
 
 -- No kind of the list has the bit.
 low : Each (λ r. r .byte < 0x80) kinds
-low = search (end, with, ltb-true) depth 60 fits 8000
+low = search (end, with, ltb-true) depth 80 fits 12000
 
 none-high : {k : ℕ} {l : List Kind} → 0x80 ≤ k → Each (λ r. r .byte < 0x80) l → Each (λ r. k ≢ r .byte) l
 none-high h end = end

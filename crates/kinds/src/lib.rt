@@ -30,6 +30,7 @@ pub fn let_in(kind: u8) -> u8
         0x8B => 0x0B,
         0x93 => 0x13,
         0xB3 => 0x33,
+        0xC3 => 0x43,
         _ => kind,
     }
 }
@@ -82,6 +83,12 @@ pub fn row_of(k: u8, numbers: Numbers) -> Row
         0x32 => Row::Has(rules::Call::GroupWait(a, b, c, d, e, f), 0x114411),
         0x33 => Row::Has(rules::Call::GroupPost(a, b, c), 0x141),
         0x34 => Row::Has(rules::Call::GroupAbort(a), 0x1),
+        0x40 => Row::Has(rules::Call::ChannelCreate(a, b), 0x11),
+        0x41 => Row::Has(rules::Call::ChannelDelete(a, b), 0x11),
+        0x42 => Row::Has(rules::Call::ChannelWait(a, b, c), 0x411),
+        0x43 => Row::Has(rules::Call::ChannelPost(a, b, c), 0x141),
+        0x44 => Row::Has(rules::Call::ChannelAbort(a), 0x1),
+        0x45 => Row::Has(rules::Call::ChannelFlush(a), 0x1),
         _ => Row::Lacks,
     }
 }

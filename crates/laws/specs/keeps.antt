@@ -1,4 +1,5 @@
 -- Each move keeps each group of the standing rules, and each call is made of moves: a sound table stays sound.
+pub mod Messages
 pub mod Records
 pub mod Becomes
 pub mod Objects
@@ -12,6 +13,7 @@ pub mod Caller
 pub mod Semaphore
 pub mod Mutex
 pub mod Group
+pub mod Channel
 pub mod Calls
 pub mod Sounds
 pub mod Always

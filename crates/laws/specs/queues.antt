@@ -2,5 +2,6 @@
 pub mod Rows
 pub mod Put
 pub mod Fields
+pub mod Shapes
 pub mod Stands
 pub mod Queues

@@ -7,11 +7,12 @@ use borrow.Author.Tests.{lt-ltb, le-ltb}
 use lib.Dec.{ltb}
 use lib.ListN.{length}
 use Rattle.rules.specs.Table.{Table}
-use Rattle.rules.specs.Step.{answer, effect, changes, serve}
+use Rattle.rules.specs.Step.{answer, effect, changes, toldBy, serve}
 use Rattle.rules.specs.Tape.{line}
 use Rattle.rules.specs.declared.Call.{Call}
 use Rattle.table.specs.Image.{view}
 use Rattle.service.specs.Served.{Served}
+use Rattle.service.specs.Told.{Told, answerIn}
 use Rattle.tape.specs.Line.{Wrote, lineIn, line-in, line-of, pasted-nothing}
 use Rattle.tape.specs.Next.{nextIn}
 use Rattle.tape.specs.declared.Next.{Next}
@@ -62,13 +63,14 @@ pub idle-turn : (s l o : List ℕ) (end : ℕ) (r : Turn) → 6 ≤ length o - e
 idle-turn s l o end r h e = quiet-turn s l o end r (taken-next (view s) end (length o - end) l (le-ltb _ 6 h) refl ∙ e)
 
 pub call-turn : (s l o s′ o′ : List ℕ) (end : ℕ) {c : Call} {i : Bool} {n a runs to : ℕ} → 6 ≤ length o - end → nextIn l ≡ Whole c i n
-    → Served (answer c i (view s)) (effect c (view s)) a s s′ → runs ≡ view s′ .running → Wrote end (lineIn a runs (length o - end)) o o′ to → Turned s l o end (Went n to) s′ o′
+    → Told (answer c i (view s)) (effect c (view s)) (toldBy c (view s)) a s s′ → runs ≡ view s′ .running → Wrote end (lineIn (answerIn a) runs (length o - end)) o o′ to → Turned s l o end (Went n to) s′ o′
 unfolding takenBy
-call-turn s l o s′ o′ end {c} {i} {n} {a} {runs} {to} h e served run wrote =
+call-turn s l o s′ o′ end {c} {i} {n} {a} {runs} {to} h e told run wrote =
+    let served = told .served in
     let x = taken-next (view s) end (length o - end) l (le-ltb _ 6 h) e in
     let out = serve c i (view s) in
-    let after = served-table c i a s s′ served in
-    let text : lineIn a runs (length o - end) ≡ line out = cc (line-in a runs (length o - end) h, line-of out, served .says, after, served-runs c i (view s), served-answer c i (view s)) in
+    let after = served-table c i (answerIn a) s s′ served in
+    let text : lineIn (answerIn a) runs (length o - end) ≡ line out = cc (line-in (answerIn a) runs (length o - end) h, line-of out, served .says, after, served-runs c i (view s), served-answer c i (view s)) in
     record {
       turn = rw x (ap (Went n) (wrote .ends ∙ ap (λ (q : List ℕ). end + length q) text));
       table = rw x after;

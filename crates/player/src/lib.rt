@@ -30,7 +30,8 @@ fn play_one(image: &mut [u8], tape: &[u8], out: &mut [u8], end: usize) -> Turn
     let next = tape::read_call(tape);
     match next {
         tape::Next::Whole(c, interrupt, n) => {
-            let answer = calls::serve(image, c, interrupt);
+            let told = calls::serve(image, c, interrupt);
+            let answer = (told % 65536) as u8;
             let runs = table::numbers::get_running(image);
             let to = tape::write_line(out, end, answer, runs);
             Turn::Went(n, to)

@@ -1,6 +1,6 @@
 -- The bytes follow the rules, and 15 is answered exactly where they are no image of a sound table: what `ByteTheorem` states.
 use mathlib.Core.Path.{_≡_, refl, sym, ap, subst, _∙_}
-use mathlib.Core.Logic.{inl, inr}
+use mathlib.Core.Logic.{_≢_, inl, inr}
 use mathlib.Core.Bool.{Bool, true, false, cond, true≢false}
 use mathlib.Core.List.{List, [], _∷_, _++_}
 use Prim.Native.Nat.{ℕ, _<_}
@@ -19,7 +19,7 @@ use Rattle.rules.specs.declared.Call.{Call}
 use Rattle.rules.specs.declared.Reading.{Reading}
 use Rattle.rules.specs.declared.Reading.the-variants.{Says, Unknown}
 use Rattle.laws.specs.order.Order.{Made, run, OrderKept}
-use Rattle.laws.specs.keeps.Sounds.{step-serve, serve-small, fresh-sound}
+use Rattle.laws.specs.keeps.Sounds.{step-serve, serve-not-15, fresh-sound}
 use Rattle.laws.specs.keeps.Always.{always-from}
 use Rattle.laws.specs.order.Demand.{demand-sound}
 use Rattle.table.specs.Image.{Image, imageSize, view, imageOf}
@@ -40,11 +40,11 @@ plainly-kept (Says c interrupt) t e = rw e
 plainly-kept (Unknown interrupt) t e = refl
 
 -- No answer is 15.
-plainly-small : (r : Reading) (t : Table) → plainly r t .answer < notSound
+plainly-other : (r : Reading) (t : Table) → plainly r t .answer ≢ notSound
 unfolding plainly
-plainly-small (Says c interrupt) t = serve-small c interrupt t
-plainly-small (Unknown true) t = omega arith
-plainly-small (Unknown false) t = omega arith
+plainly-other (Says c interrupt) t = serve-not-15 c interrupt t
+plainly-other (Unknown true) t = λ e. omega arith
+plainly-other (Unknown false) t = λ e. omega arith
 
 -- The table is the one that the rules' calls make.
 plainly-run : {t : Table} → Sound t → (r : Reading) (b : BoundedIn r) → plainly r t .table ≡ run (madeIn r b) t
@@ -81,9 +81,9 @@ module _ {t : Table} (s : Sound t) (p : PortCall) where
       ∙ sym rule-plainly
 
   -- Whichever function is called.
-  by-either : {x v : ℕ} {m : List ℕ} → Called p (imageOf t) x v m → Gives rule (imageOf t) x v m
-  by-either {x} {v} {m} (byStep g) = subst (λ (o : Outcome). Gives o (imageOf t) x v m) by-step g
-  by-either {x} {v} {m} (byServe g) = subst (λ (o : Outcome). Gives o (imageOf t) x v m) by-serve g
+  by-either : {x v k : ℕ} {m : List ℕ} → Called p (imageOf t) x v k m → Gives rule (imageOf t) x v k m
+  by-either {x} {v} {k} {m} (byStep g) = subst (λ (o : Outcome). Gives o (imageOf t) x v k m) by-step g
+  by-either {x} {v} {k} {m} (byServe g) = subst (λ (o : Outcome). Gives o (imageOf t) x v k m) by-serve g
 
   -- The table afterwards.
   rule-run : rule .table ≡ run (madeBy p) t
@@ -103,15 +103,16 @@ module _ {t : Table} (s : Sound t) (p : PortCall) where
   unfolding plainly
   unknown-table interrupt e = ap (λ (o : Outcome). o .table) (rule-plainly ∙ ap (λ (r : Reading). plainly r t) e)
 
-  answered : {x v : ℕ} {m : List ℕ} → Called p (imageOf t) x v m → AsRules p t (imageOf t) x v m
-  answered {x} {v} {m} c =
+  answered : {x v k : ℕ} {m : List ℕ} → Called p (imageOf t) x v k m → AsRules p t (imageOf t) x v k m
+  answered {x} {v} {k} {m} c =
       let g = by-either c in
       let bytes : m ≡ imageOf (rule .table) = g .bytes ∙ after-image in
       record {
         answer = g .answer;
         runs = g .runs;
+        further = g .further;
         bytes = bytes;
-        taken = λ e. omega (arith, g .answer, ap (λ (o : Outcome). o .answer) rule-plainly, plainly-small (readingOf p) t, e);
+        taken = λ e. plainly-other (readingOf p) t (sym (g .answer ∙ ap (λ (o : Outcome). o .answer) rule-plainly) ∙ e);
         order = λ d interrupt e.
             subst (OrderKept d interrupt t)
             (sym (ap view bytes ∙ image-view (sound-fits after-sound) ∙ says-table d interrupt e))
@@ -132,8 +133,8 @@ run-append (c ∷ cs) ds t = run-append cs ds (step (c .call) (c .interrupt) t .
 along : {ps : List PortCall} {l n : List ℕ} {t : Table} → Calls ps l n → Sound t → l ≡ imageOf t → Follows (run (madeByAll ps) t) n
 unfolding madeByAll run
 along {t = t} none s e = subst (Follows t) (sym e) (follows s)
-along {n = n} {t = t} (more {p} {ps} {x} {v} {m = m} c cs) s e =
-    let a = answered s p (subst (λ (k : List ℕ). Called p k x v m) e c) in
+along {n = n} {t = t} (more {p} {ps} {x} {v} {k} {m = m} c cs) s e =
+    let a = answered s p (subst (λ (z : List ℕ). Called p z x v k m) e c) in
     let rest : Follows (run (madeByAll ps) (run (madeBy p) t)) n = along cs (always-from (madeBy p) s) (a .bytes ∙ ap imageOf (rule-run s p)) in
     subst (λ (u : Table). Follows u n) (sym (run-append (madeBy p) (madeByAll ps) t)) rest
 
@@ -142,7 +143,7 @@ pub some-calls : (ps : List PortCall) (l : List ℕ) → (n : List ℕ) × Calls
 some-calls [] l = (l, none)
 some-calls (p ∷ ps) l =
     let (n, rest) = some-calls ps (bytesAfter (outcomeOf (p .kind) (p .a) (p .b) (p .c) (p .d) (p .e) (p .f) l) l) in
-    (n, more (byStep (record { answer = refl; runs = refl; bytes = refl })) rest)
+    (n, more (byStep (record { answer = refl; runs = refl; further = refl; bytes = refl })) rest)
 
 -- From the image of any sound table.
 pub from-sound : FromSound
@@ -160,29 +161,30 @@ zeroed = inr λ t s e. omega (arith, s .settled .numbers .defaultLeast, ap (λ (
 
 -- ---- 15
 
-module _ (kind a b c d e f : ℕ) (l : List ℕ) (bytes : Bytes l) {x v : ℕ} {m : List ℕ} (g : Gives (outcomeOf kind a b c d e f l) l x v m) where
+module _ (kind a b c d e f : ℕ) (l : List ℕ) (bytes : Bytes l) {x v k : ℕ} {m : List ℕ} (g : Gives (outcomeOf kind a b c d e f l) l x v k m) where
   -- Where the outcome is that of a table that is not sound.
-  refused : outcomeOf kind a b c d e f l ≡ unsound (view l) → NoImage l → Fifteen l x v m
+  refused : outcomeOf kind a b c d e f l ≡ unsound (view l) → NoImage l → Fifteen l x v k m
   unfolding bytesAfter
   refused e h =
       record {
         exactly = ((λ z. h), (λ z. g .answer ∙ ap (λ (o : Outcome). o .answer) e));
         none = λ z. g .runs ∙ ap (λ (o : Outcome). o .runs) e;
+        nothing = λ z. g .further ∙ ap (λ (o : Outcome). o .further) e;
         bytes = λ z. g .bytes ∙ ap (λ (o : Outcome). bytesAfter o l) e;
       }
 
   -- Where the bytes are the image of a sound table.
-  taken : Image l → isSound (view l) ≡ true → Fifteen l x v m
-  taken h tested = record { exactly = ((λ z. absurd (small z)), (λ h. absurd (is h))); none = λ z. absurd (small z); bytes = λ z. absurd (small z) }
+  taken : Image l → isSound (view l) ≡ true → Fifteen l x v k m
+  taken h tested = record { exactly = ((λ z. absurd (small z)), (λ h. absurd (is h))); none = λ z. absurd (small z); nothing = λ z. absurd (small z); bytes = λ z. absurd (small z) }
     where
       small : x ≡ notSound → ⊥
-      small z = omega (arith, g .answer, ap (λ (o : Outcome). o .answer) (step-sound kind a b c d e f l h tested), plainly-small (said kind a b c d e f) (view l), z)
+      small z = plainly-other (said kind a b c d e f) (view l) (sym (g .answer ∙ ap (λ (o : Outcome). o .answer) (step-sound kind a b c d e f l h tested)) ∙ z)
 
       is : NoImage l → ⊥
       is (inl wrong) = wrong h
       is (inr other) = other (view l) (tested-sound (view l) tested) (sym (view-image l h bytes))
 
-  by-length : Dec (Image l) → Fifteen l x v m
+  by-length : Dec (Image l) → Fifteen l x v k m
   by-length (no h) = refused (step-wrong kind a b c d e f l h) (inl h)
   by-length (yes h) = go (isSound (view l)) refl
     where
@@ -190,10 +192,10 @@ module _ (kind a b c d e f : ℕ) (l : List ℕ) (bytes : Bytes l) {x v : ℕ} {
       none-sound : isSound (view l) ≡ false → (t : Table) → Sound t → l ≡ imageOf t → ⊥
       none-sound e t s z = let shown : view l ≡ t = ap view z ∙ image-view (sound-fits s) in true≢false (sym (sound-tested s) ∙ ap isSound (sym shown) ∙ e)
 
-      go : (y : Bool) → isSound (view l) ≡ y → Fifteen l x v m
+      go : (y : Bool) → isSound (view l) ≡ y → Fifteen l x v k m
       go true tested = taken h tested
       go false tested = refused (step-unsound kind a b c d e f l h tested) (inr (none-sound tested))
 
 -- ntk_step, of any bytes.
 pub fifteen : FifteenExactly
-fifteen kind a b c d e f l bytes x v m g = by-length kind a b c d e f l bytes g (ℕ-discrete (length l) imageSize)
+fifteen kind a b c d e f l bytes x v k m g = by-length kind a b c d e f l bytes g (ℕ-discrete (length l) imageSize)

@@ -28,24 +28,25 @@ use Rattle.port.specs.Reads.{PortCall, readingOf, ruleOf, madeByAll}
 
 -- ---- calls from C
 
--- What C sees of a call p on the bytes l: the answer x, the task v to run, and the bytes m afterwards. They are what one of the two functions
--- promises (src/lib.rt).
-pub data Called (p : PortCall) (l : List ℕ) (x v : ℕ) (m : List ℕ) : Type 0 where
-  byStep : Stepped (p .kind) (p .a) (p .b) (p .c) (p .d) (p .e) (p .f) l x v m → Called p l x v m
-  byServe : ServedPlainly (p .kind) (p .a) (p .b) (p .c) (p .d) (p .e) (p .f) l x v m → Called p l x v m
+-- What C sees of a call p on the bytes l: the answer x, the task v to run, the further result k, and the bytes m afterwards. They are what one of the two
+-- functions promises (src/lib.rt).
+pub data Called (p : PortCall) (l : List ℕ) (x v k : ℕ) (m : List ℕ) : Type 0 where
+  byStep : Stepped (p .kind) (p .a) (p .b) (p .c) (p .d) (p .e) (p .f) l x v k m → Called p l x v k m
+  byServe : ServedPlainly (p .kind) (p .a) (p .b) (p .c) (p .d) (p .e) (p .f) l x v k m → Called p l x v k m
 
 -- Any number of calls one after another, in any mixture of the two functions, from the bytes l to the bytes n.
 pub data Calls : List PortCall → List ℕ → List ℕ → Type 0 where
   none : {l : List ℕ} → Calls [] l l
-  more : {p : PortCall} {ps : List PortCall} {x v : ℕ} {l m n : List ℕ} → Called p l x v m → Calls ps m n → Calls (p ∷ ps) l n
+  more : {p : PortCall} {ps : List PortCall} {x v k : ℕ} {l m n : List ℕ} → Called p l x v k m → Calls ps m n → Calls (p ∷ ps) l n
 
 -- ---- what holds of the bytes
 
 -- A call p on the image l of the table t, whichever of the two functions takes it:
-pub record AsRules (p : PortCall) (t : Table) (l : List ℕ) (x v : ℕ) (m : List ℕ) : Type 0 where
-  -- the answer, the task to run and the table in the bytes are those of the rules;
+pub record AsRules (p : PortCall) (t : Table) (l : List ℕ) (x v k : ℕ) (m : List ℕ) : Type 0 where
+  -- the answer, the task to run, the further result and the table in the bytes are those of the rules;
   pub answer : x ≡ ruleOf p t .answer
   pub runs : v ≡ ruleOf p t .runs
+  pub further : k ≡ ruleOf p t .further
   pub bytes : m ≡ imageOf (ruleOf p t .table)
   -- it is not answered 15;
   pub taken : x ≢ notSound
@@ -63,7 +64,7 @@ pub record Follows (t : Table) (l : List ℕ) : Type 0 where
   -- demand 3 holds of it;
   pub demand : Demand3 t
   -- any call on them is answered so;
-  pub calls : (p : PortCall) {x v : ℕ} {m : List ℕ} → Called p l x v m → AsRules p t l x v m
+  pub calls : (p : PortCall) {x v k : ℕ} {m : List ℕ} → Called p l x v k m → AsRules p t l x v k m
   -- and `ntk_serve` gives what `ntk_step` gives.
   pub same : (p : PortCall) → serveOf (p .kind) (p .a) (p .b) (p .c) (p .d) (p .e) (p .f) l ≡ outcomeOf (p .kind) (p .a) (p .b) (p .c) (p .d) (p .e) (p .f) l
 
@@ -89,13 +90,15 @@ NoImage l = (length l ≢ imageSize) ⊎ ((t : Table) → Sound t → l ≢ imag
 abbrev pub ZeroedIsNone : Type 0
 ZeroedIsNone = NoImage (replicate imageSize 0)
 
--- A call on the bytes l, of any length, is answered 15 exactly there; "With 15 the task to run is none", and no byte changes.
-pub record Fifteen (l : List ℕ) (x v : ℕ) (m : List ℕ) : Type 0 where
+-- A call on the bytes l, of any length, is answered 15 exactly there; "With 15 the task to run is none", nothing further is told, and no byte
+-- changes.
+pub record Fifteen (l : List ℕ) (x v k : ℕ) (m : List ℕ) : Type 0 where
   pub exactly : (x ≡ notSound) ↔ NoImage l
   pub none : x ≡ notSound → v ≡ 0
+  pub nothing : x ≡ notSound → k ≡ 0
   pub bytes : x ≡ notSound → m ≡ l
 
 -- So `ntk_step` does, whatever the kind, those that the list lacks among them, and whatever the numbers. (`Bytes l` says that each number of
 -- l is below 256.)
 abbrev pub FifteenExactly : Type 0
-FifteenExactly = (kind a b c d e f : ℕ) (l : List ℕ) → Bytes l → (x v : ℕ) (m : List ℕ) → Stepped kind a b c d e f l x v m → Fifteen l x v m
+FifteenExactly = (kind a b c d e f : ℕ) (l : List ℕ) → Bytes l → (x v k : ℕ) (m : List ℕ) → Stepped kind a b c d e f l x v k m → Fifteen l x v k m

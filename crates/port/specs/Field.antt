@@ -4,12 +4,13 @@ use mathlib.Core.List.{List, [], _∷_, _++_}
 use Prim.Native.Nat.{ℕ, _*_, _/_, _%_}
 use lib.Dec.{eqb, ltb}
 use lib.ListN.{length, getD}
-use Rattle.rules.specs.Sizes.{taskCount, semaphoreCount, mutexCount, groupCount}
-use Rattle.rules.specs.Table.{Table, taskOf, semaphoreOf, mutexOf, groupOf, queueOf, queueCount}
+use Rattle.rules.specs.Sizes.{taskCount, semaphoreCount, mutexCount, groupCount, channelCount, mostMessages}
+use Rattle.rules.specs.Table.{Table, taskOf, semaphoreOf, mutexOf, groupOf, channelOf, rowOf, queueOf, queueCount}
 use Rattle.rules.specs.declared.Task.{Task}
 use Rattle.rules.specs.declared.Semaphore.{Semaphore}
 use Rattle.rules.specs.declared.Mutex.{Mutex}
 use Rattle.rules.specs.declared.Group.{Group}
+use Rattle.rules.specs.declared.Channel.{Channel}
 use Rattle.table.specs.Image.{imageSize, view}
 
 -- What no field shows: a field has 32 bits. It is the greatest number of 64 bits.
@@ -36,9 +37,16 @@ ofMutex code part = record { code = code; count = mutexCount; shows = λ t i. pa
 abbrev pub ofGroup : ℕ → (Group → ℕ) → Field
 ofGroup code part = record { code = code; count = groupCount; shows = λ t i. part (groupOf t i) }
 
+abbrev pub ofChannel : ℕ → (Channel → ℕ) → Field
+ofChannel code part = record { code = code; count = channelCount; shows = λ t i. part (channelOf t i) }
+
 -- Slot j of queue q has the number 32 q + j.
 abbrev pub slots : ℕ → Field
 slots code = record { code = code; count = queueCount * taskCount; shows = λ t i. getD (queueOf t (i / taskCount)) (i % taskCount) 0 }
+
+-- Slot j of the row of channel c has the number 32 c + j.
+abbrev pub messages : ℕ → Field
+messages code = record { code = code; count = channelCount * mostMessages; shows = λ t i. getD (rowOf t (i / mostMessages)) (i % mostMessages) 0 }
 
 -- There is one, with the number 0.
 abbrev pub single : ℕ → (Table → ℕ) → Field
@@ -60,6 +68,7 @@ taskFields =
     ∷ ofTask 0x0B (λ k. k .mask)
     ∷ ofTask 0x0C (λ k. k .test)
     ∷ ofTask 0x0D (λ k. k .consume)
+    ∷ ofTask 0x0E (λ k. k .message)
     ∷ []
 
 abbrev pub objectFields : List Field
@@ -74,14 +83,20 @@ objectFields =
 abbrev pub groupFields : List Field
 groupFields = ofGroup 0x30 (λ x. x .used) ∷ ofGroup 0x31 (λ x. x .flags) ∷ []
 
+abbrev pub channelFields : List Field
+channelFields = ofChannel 0x40 (λ x. x .used) ∷ ofChannel 0x41 (λ x. x .capacity) ∷ ofChannel 0x42 (λ x. x .held) ∷ []
+
 abbrev pub queueFields : List Field
 queueFields = slots 0xE0 ∷ []
+
+abbrev pub messageFields : List Field
+messageFields = messages 0xE1 ∷ []
 
 abbrev pub singleFields : List Field
 singleFields = single 0xF0 (λ t. t .tick) ∷ single 0xF1 (λ t. t .depth) ∷ single 0xF2 (λ t. t .running) ∷ single 0xF3 (λ t. t .defaultQuantum) ∷ []
 
 abbrev pub fields : List Field
-fields = taskFields ++ (objectFields ++ (groupFields ++ (queueFields ++ singleFields)))
+fields = taskFields ++ (objectFields ++ (groupFields ++ (channelFields ++ (queueFields ++ (messageFields ++ singleFields)))))
 
 -- ---- what is read
 

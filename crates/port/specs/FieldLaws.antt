@@ -8,12 +8,12 @@ use native.Mathlib.Omega.{arith}
 use lib.Dec.{eqb, ltb}
 use lib.ListN.{length}
 use borrow.Author.Tests.{eq-eqb, ne-eqb, le-ltb, ltb-true, leb-true}
-use Rattle.rules.specs.Sizes.{taskCount}
+use Rattle.rules.specs.Sizes.{taskCount, channelCount, mostMessages}
 use Rattle.rules.specs.Table.{Table, queueCount}
 use Rattle.rules.specs.Tape.{Bytes}
 use Rattle.table.specs.Image.{Image, imageSize, view}
 use Rattle.table.specs.Written.{Fits, view-fits}
-use Rattle.port.specs.Field.{noField, Field, taskFields, objectFields, groupFields, queueFields, singleFields, fields, shownIn, fieldOf, readOf, knownIn, known}
+use Rattle.port.specs.Field.{noField, Field, taskFields, objectFields, groupFields, channelFields, queueFields, messageFields, singleFields, fields, shownIn, fieldOf, readOf, knownIn, known}
 
 -- So it is of each field of the list.
 pub data Each (P : Field → Type 0) : List Field → Type 0 where
@@ -59,11 +59,17 @@ all-above a h (with {r} d e) = with {r = r} (λ z. omega (arith, h, d, z)) (all-
 
 -- ---- which fields are read of bytes
 
+abbrev fromMessages : List Field
+fromMessages = messageFields ++ singleFields
+
 abbrev fromQueues : List Field
-fromQueues = queueFields ++ singleFields
+fromQueues = queueFields ++ fromMessages
+
+abbrev fromChannels : List Field
+fromChannels = channelFields ++ fromQueues
 
 abbrev fromGroups : List Field
-fromGroups = groupFields ++ fromQueues
+fromGroups = groupFields ++ fromChannels
 
 abbrev fromObjects : List Field
 fromObjects = objectFields ++ fromGroups
@@ -80,27 +86,39 @@ module _ (f i : ℕ) (l : List ℕ) where
   pub read-task : Image l → f < 0x10 → readOf f i l ≡ shownIn taskFields f i (view l)
   read-task h p = read-right h ∙ shown-before f i (view l) taskFields fromObjects (all-above 0x10 p (search (end, with, leb-true) depth 40))
 
-  -- Past the tasks, the objects and the groups.
+  -- Past the tasks, the objects, the groups, the channels and the slots.
   past-tasks : Image l → 0x10 ≤ f → readOf f i l ≡ shownIn fromObjects f i (view l)
   past-tasks h o = read-right h ∙ shown-behind f i (view l) taskFields fromObjects (all-below 0x10 o (search (end, with, ltb-true) depth 40))
 
   past-objects : Image l → 0x30 ≤ f → readOf f i l ≡ shownIn fromGroups f i (view l)
   past-objects h o = past-tasks h (omega arith) ∙ shown-behind f i (view l) objectFields fromGroups (all-below 0x30 o (search (end, with, ltb-true) depth 40))
 
-  past-groups : Image l → 0x40 ≤ f → readOf f i l ≡ shownIn fromQueues f i (view l)
-  past-groups h o = past-objects h (omega arith) ∙ shown-behind f i (view l) groupFields fromQueues (all-below 0x40 o (search (end, with, ltb-true) depth 40))
+  past-groups : Image l → 0x40 ≤ f → readOf f i l ≡ shownIn fromChannels f i (view l)
+  past-groups h o = past-objects h (omega arith) ∙ shown-behind f i (view l) groupFields fromChannels (all-below 0x40 o (search (end, with, ltb-true) depth 40))
+
+  past-channels : Image l → 0x50 ≤ f → readOf f i l ≡ shownIn fromQueues f i (view l)
+  past-channels h o = past-groups h (omega arith) ∙ shown-behind f i (view l) channelFields fromQueues (all-below 0x50 o (search (end, with, ltb-true) depth 40))
+
+  past-slots : Image l → 0xE1 ≤ f → readOf f i l ≡ shownIn fromMessages f i (view l)
+  past-slots h o = past-channels h (omega arith) ∙ shown-behind f i (view l) queueFields fromMessages (all-below 0xE1 o (search (end, with, ltb-true) depth 40))
 
   pub read-object : Image l → 0x10 ≤ f → f < 0x30 → readOf f i l ≡ shownIn objectFields f i (view l)
   read-object h o p = past-tasks h o ∙ shown-before f i (view l) objectFields fromGroups (all-above 0x30 p (search (end, with, leb-true) depth 40))
 
   pub read-group : Image l → 0x30 ≤ f → f < 0x40 → readOf f i l ≡ shownIn groupFields f i (view l)
-  read-group h o p = past-objects h o ∙ shown-before f i (view l) groupFields fromQueues (all-above 0x40 p (search (end, with, leb-true) depth 40))
+  read-group h o p = past-objects h o ∙ shown-before f i (view l) groupFields fromChannels (all-above 0x40 p (search (end, with, leb-true) depth 40))
 
-  pub read-slot : Image l → 0x40 ≤ f → f < 0xF0 → readOf f i l ≡ shownIn queueFields f i (view l)
-  read-slot h o p = past-groups h o ∙ shown-before f i (view l) queueFields singleFields (all-above 0xF0 p (search (end, with, leb-true) depth 40))
+  pub read-channel : Image l → 0x40 ≤ f → f < 0x50 → readOf f i l ≡ shownIn channelFields f i (view l)
+  read-channel h o p = past-groups h o ∙ shown-before f i (view l) channelFields fromQueues (all-above 0x50 p (search (end, with, leb-true) depth 40))
+
+  pub read-slot : Image l → 0x50 ≤ f → f < 0xE1 → readOf f i l ≡ shownIn queueFields f i (view l)
+  read-slot h o p = past-channels h o ∙ shown-before f i (view l) queueFields fromMessages (all-above 0xE1 p (search (end, with, leb-true) depth 40))
+
+  pub read-message : Image l → 0xE1 ≤ f → f < 0xF0 → readOf f i l ≡ shownIn messageFields f i (view l)
+  read-message h o p = past-slots h o ∙ shown-before f i (view l) messageFields singleFields (all-above 0xF0 p (search (end, with, leb-true) depth 40))
 
   pub read-single : Image l → 0xF0 ≤ f → readOf f i l ≡ shownIn singleFields f i (view l)
-  read-single h o = past-groups h (omega arith) ∙ shown-behind f i (view l) queueFields singleFields (all-below 0xF0 o (search (end, with, ltb-true) depth 40))
+  read-single h o = past-slots h (omega arith) ∙ shown-behind f i (view l) messageFields singleFields (all-below 0xF0 o (search (end, with, ltb-true) depth 40))
 
 -- ---- `noField` is no field's number
 
@@ -164,6 +182,7 @@ all-small t s =
     and (λ i h. omega (arith, s .tasks i h))
     and (λ i h. omega (arith, s .tasks i h))
     and (λ i h. omega (arith, s .tasks i h))
+    and (λ i h. omega (arith, s .tasks i h))
     and (λ i h. omega (arith, s .semaphores i h))
     and (λ i h. omega (arith, s .semaphores i h))
     and (λ i h. omega (arith, s .mutexes i h))
@@ -171,7 +190,11 @@ all-small t s =
     and (λ i h. omega (arith, s .mutexes i h))
     and (λ i h. omega (arith, s .groups i h))
     and (λ i h. omega (arith, s .groups i h))
+    and (λ i h. omega (arith, s .channels i h))
+    and (λ i h. omega (arith, s .channels i h))
+    and (λ i h. omega (arith, s .channels i h))
     and (λ i h. let q : i / taskCount < queueCount = omega (arith, h) in omega (arith, s .queues (i / taskCount) q (i % taskCount)))
+    and (λ i h. let c : i / mostMessages < channelCount = omega (arith, h) in omega (arith, s .messages (i / mostMessages) c (i % mostMessages)))
     and (λ i h. omega (arith, s .tick))
     and (λ i h. omega (arith, s .depth))
     and (λ i h. omega (arith, s .running))

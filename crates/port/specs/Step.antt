@@ -14,9 +14,9 @@ use Rattle.rules.specs.declared.Reading.{Reading}
 use Rattle.rules.specs.declared.Reading.the-variants.{Says, Unknown}
 use Rattle.table.specs.Image.{imageSize, view, imageOf}
 
--- The library's version, which the header has too: 1.3.1.
+-- The library's version, which the header has too: 1.4.0.
 abbrev pub version : ℕ
-version = 10301
+version = 10400
 
 -- Where the bytes are an image's by their length, what the rules say of the table that they show; else 15.
 unfoldable pub sized : (Table → Outcome) → List ℕ → Outcome
@@ -33,7 +33,7 @@ said kind a b c d e f = reading kind (a ∷ b ∷ c ∷ d ∷ e ∷ f ∷ [])
 
 unfoldable pub plainly : Reading → Table → Outcome
 plainly (Says c interrupt) t = serve c interrupt t
-plainly (Unknown interrupt) t = record { answer = cond interrupt byInterrupt beyondRange; table = t; runs = t .running }
+plainly (Unknown interrupt) t = record { answer = cond interrupt byInterrupt beyondRange; table = t; runs = t .running; further = 0 }
 
 unfoldable pub serveOf : (kind a b c d e f : ℕ) → List ℕ → Outcome
 serveOf kind a b c d e f l = sized (plainly (said kind a b c d e f)) l
@@ -44,23 +44,24 @@ serveOf kind a b c d e f l = sized (plainly (said kind a b c d e f)) l
 unfoldable pub bytesAfter : Outcome → List ℕ → List ℕ
 bytesAfter o l = cond (changes (o .answer)) (imageOf (o .table)) l
 
--- From the bytes l: the answer x, the task v to run, and the bytes m at exit are those of the outcome o.
-pub record Gives (o : Outcome) (l : List ℕ) (x v : ℕ) (m : List ℕ) : Type 0 where
+-- From the bytes l: the answer x, the task v to run, the further result k, and the bytes m at exit are those of the outcome o.
+pub record Gives (o : Outcome) (l : List ℕ) (x v k : ℕ) (m : List ℕ) : Type 0 where
   pub answer : x ≡ o .answer
   pub runs : v ≡ o .runs
+  pub further : k ≡ o .further
   pub bytes : m ≡ bytesAfter o l
 
--- An outcome in one number: the answer in its lower 32 bits, the task to run above them.
-abbrev pub answerIn : ℕ → ℕ
-answerIn both = both % 4294967296
+-- An outcome in one number: the answer with the further result in its lower 32 bits, the task to run above them.
+abbrev pub resultIn : ℕ → ℕ
+resultIn all = all % 4294967296
 
 abbrev pub runsIn : ℕ → ℕ
-runsIn both = both / 4294967296
+runsIn all = all / 4294967296
 
-abbrev pub Stepped : (kind a b c d e f : ℕ) (l : List ℕ) (answer runs : ℕ) (m : List ℕ) → Type 0
+abbrev pub Stepped : (kind a b c d e f : ℕ) (l : List ℕ) (answer runs further : ℕ) (m : List ℕ) → Type 0
 Stepped kind a b c d e f l = Gives (outcomeOf kind a b c d e f l) l
 
-abbrev pub ServedPlainly : (kind a b c d e f : ℕ) (l : List ℕ) (answer runs : ℕ) (m : List ℕ) → Type 0
+abbrev pub ServedPlainly : (kind a b c d e f : ℕ) (l : List ℕ) (answer runs further : ℕ) (m : List ℕ) → Type 0
 ServedPlainly kind a b c d e f l = Gives (serveOf kind a b c d e f l) l
 
 -- `ntk_fresh` answers 0 and leaves the image of the fresh table; bytes of another length it answers with 15 and leaves as they came.
@@ -69,8 +70,8 @@ pub record Freshened (l : List ℕ) (x : ℕ) (m : List ℕ) : Type 0 where
   pub bytes : m ≡ cond (eqb (length l) imageSize) (imageOf freshTable) l
 
 -- No two results meet the promise for one input: neither of `ntk_step` nor of `ntk_serve`.
-pub determined : {o : Outcome} {l : List ℕ} {x y v w : ℕ} {m n : List ℕ} → Gives o l x v m → Gives o l y w n → (x ≡ y) × (v ≡ w) × (m ≡ n)
-determined p q = (p .answer ∙ sym (q .answer), p .runs ∙ sym (q .runs), p .bytes ∙ sym (q .bytes))
+pub determined : {o : Outcome} {l : List ℕ} {x y v w j k : ℕ} {m n : List ℕ} → Gives o l x v j m → Gives o l y w k n → (x ≡ y) × (v ≡ w) × (j ≡ k) × (m ≡ n)
+determined p q = (p .answer ∙ sym (q .answer), p .runs ∙ sym (q .runs), p .further ∙ sym (q .further), p .bytes ∙ sym (q .bytes))
 
 -- Nor of `ntk_fresh`.
 pub fresh-determined : {l : List ℕ} {x y : ℕ} {m n : List ℕ} → Freshened l x m → Freshened l y n → (x ≡ y) × (m ≡ n)

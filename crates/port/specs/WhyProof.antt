@@ -44,8 +44,8 @@ module _ (l : List ℕ) where
       go (yes h) (inr n) = n (view l) (why-broken l h .sound .0 e) (sym (view-image l h b))
 
 pub why-fifteen : WhyFifteen
-why-fifteen kind a b c d e f l bytes x v m g =
-    let exactly = fifteen kind a b c d e f l bytes x v m g .exactly in
+why-fifteen kind a b c d e f l bytes x v k m g =
+    let exactly = fifteen kind a b c d e f l bytes x v k m g .exactly in
     ((λ z y. image-sound l bytes z (exactly .0 y)), λ n. go (ℕ-discrete (reasonOf l .rule) 0) n (exactly .1))
   where
     go : Dec (reasonOf l .rule ≡ 0) → x ≢ notSound → (NoImage l → x ≡ notSound) → reasonOf l .rule ≡ 0

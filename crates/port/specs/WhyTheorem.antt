@@ -19,7 +19,7 @@ use Rattle.port.specs.Why.{wrongLength, reasonOf}
 
 -- A call on the same bytes, of any kind and any numbers, is answered 15 exactly where there is a reason.
 abbrev pub WhyFifteen : Type 0
-WhyFifteen = (kind a b c d e f : ℕ) (l : List ℕ) → Bytes l → (x v : ℕ) (m : List ℕ) → Stepped kind a b c d e f l x v m → (reasonOf l .rule ≡ 0) ↔ (x ≢ notSound)
+WhyFifteen = (kind a b c d e f : ℕ) (l : List ℕ) → Bytes l → (x v k : ℕ) (m : List ℕ) → Stepped kind a b c d e f l x v k m → (reasonOf l .rule ≡ 0) ↔ (x ≢ notSound)
 
 abbrev pub WhyLength : Type 0
 WhyLength = (l : List ℕ) → (reasonOf l ≡ reason wrongLength 0) ↔ (length l ≢ imageSize)

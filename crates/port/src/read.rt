@@ -1,13 +1,16 @@
 // Reading a field of the table, for the port, a debugger and the port's tests. Every input is taken.
 ghost use mathlib.Core.Path.{_≡_};
 ghost use Rattle.table.specs.Image.{Image, view};
-ghost use Rattle.port.specs.Field.{shownIn, taskFields, objectFields, groupFields, queueFields, singleFields, readOf};
+ghost use Rattle.port.specs.Field.{shownIn, taskFields, objectFields, groupFields, channelFields, queueFields, messageFields, singleFields, readOf};
 
 // What no field shows.
 pub const NO_FIELD: u64 = 18446744073709551615;
 
 // The slots of all queues.
-const SLOTS: u32 = 41 * 32;
+const SLOTS: u32 = 57 * 32;
+
+// The messages of all channels.
+const MESSAGES: u32 = 16 * 32;
 
 fn task_field(field: u32, number: u32, s: &[u8]) -> u64
     requires { ⌜ Image (now s) ⌝ }
@@ -32,6 +35,7 @@ fn task_field(field: u32, number: u32, s: &[u8]) -> u64
         0x0B => table::tasks::get_mask(s, i) as u64,
         0x0C => table::tasks::get_test(s, i) as u64,
         0x0D => table::tasks::get_consume(s, i) as u64,
+        0x0E => table::tasks::get_message(s, i) as u64,
         _ => NO_FIELD,
     }
 }
@@ -69,6 +73,22 @@ fn group_field(field: u32, number: u32, s: &[u8]) -> u64
     }
 }
 
+fn channel_field(field: u32, number: u32, s: &[u8]) -> u64
+    requires { ⌜ Image (now s) ⌝ }
+    ensures { λ r. ⌜ r ≡ shownIn channelFields field number (view (now (s .entry))) ⌝ }
+{
+    if 16 <= number {
+        return NO_FIELD;
+    }
+    let i = number as usize;
+    match field {
+        0x40 => table::channels::get_used(s, i) as u64,
+        0x41 => table::channels::get_capacity(s, i) as u64,
+        0x42 => table::channels::get_held(s, i) as u64,
+        _ => NO_FIELD,
+    }
+}
+
 // Slot j of queue q is number 32 q + j.
 fn slot_field(field: u32, number: u32, s: &[u8]) -> u64
     requires { ⌜ Image (now s) ⌝ }
@@ -80,6 +100,21 @@ fn slot_field(field: u32, number: u32, s: &[u8]) -> u64
     let i = number as usize;
     match field {
         0xE0 => table::moves::slot_in(s, i / 32, i % 32) as u64,
+        _ => NO_FIELD,
+    }
+}
+
+// Slot j of the row of channel c is number 32 c + j.
+fn message_field(field: u32, number: u32, s: &[u8]) -> u64
+    requires { ⌜ Image (now s) ⌝ }
+    ensures { λ r. ⌜ r ≡ shownIn messageFields field number (view (now (s .entry))) ⌝ }
+{
+    if MESSAGES <= number {
+        return NO_FIELD;
+    }
+    let i = number as usize;
+    match field {
+        0xE1 => table::channels::get_message_at(s, i / 32, i % 32) as u64,
         _ => NO_FIELD,
     }
 }
@@ -117,8 +152,14 @@ pub extern "C" fn ntk_read(field: u32, number: u32, image: &[u8]) -> u64
     if field < 0x40 {
         return group_field(field, number, image);
     }
-    if field < 0xF0 {
+    if field < 0x50 {
+        return channel_field(field, number, image);
+    }
+    if field < 0xE1 {
         return slot_field(field, number, image);
+    }
+    if field < 0xF0 {
+        return message_field(field, number, image);
     }
     single_field(field, number, image)
 }

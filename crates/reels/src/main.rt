@@ -108,6 +108,22 @@ fn proved_cases(start: Output) -> Output {
     output
 }
 
+// Those of message queues.
+fn channel_cases(start: Output) -> Output {
+    let mut output = start;
+    output = reel(
+        output,
+        b"frames, three into a channel of two, and one to the decoder that waits\n",
+        b"\x01\x01\x05\x00\x00\x40\x00\x02\x43\x00\x01\x00\x00\x00\x00\x43\x00\x02\x00\x00\x00\x00\x43\x00\x03\x00\x00\x00\x00\x01\x02\x04\x00\x00\x42\x00\x01\x00\x00\x00\x00\x42\x00\x01\x00\x00\x00\x00\x42\x00\x01\x00\x00\x00\x00\x43\x00\x04\x00\x00\x00\x00",
+    );
+    output = reel(
+        output,
+        b"a message to the front, a flush, a channel without room\n",
+        b"\x01\x01\x05\x00\x00\x40\x00\x20\x43\x00\x07\x00\x00\x00\x00\xc3\x00\x00\x00\x00\x00\x00\x43\x00\x09\x00\x00\x00\x01\x45\x00\xc5\x00\x42\x00\x00\x00\x00\x00\x00\x43\x00\x00\x00\x00\x00\x02\x40\x01\x00\x40\x01\x21",
+    );
+    output
+}
+
 // Those that are only run, and the easy slips that the proved ones do not have.
 fn run_only(start: Output) -> Output {
     let mut output = start;
@@ -204,6 +220,7 @@ fn every_kind(output: Output) -> Output {
 fn main() {
     let mut output = Output::start();
     output = proved_cases(output);
+    output = channel_cases(output);
     output = wrapping_mark(output);
     output = nested(output);
     output = run_only(output);

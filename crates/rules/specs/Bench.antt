@@ -6,7 +6,8 @@ use Prim.Native.Nat.{ℕ}
 use lib.ListN.{replicate}
 use Rattle.queue.specs.Slots.{firstAt, later, push, pull, opened, closed}
 use Rattle.queue.specs.Order.{count, mayPrecede, fits, isOrdered}
-use Rattle.rules.specs.Sound.{each, isShaped, marksIn, isTaskInRange, isNoTask, isNoSemaphore, isNoMutex, isNoGroup, asksIn, isSoundTask, isSoundSemaphore, isSoundMutex, isSoundGroup, mayWait, isSoundWait, eachOf, isSoundObjects, isSoundQueues, isWorkedOut, isSoundNumbers, isSoundWithin, isSoundRuns, isSound}
+use Rattle.rules.specs.Sound.{each, isShaped, marksIn, isTaskInRange, isNoTask, isNoSemaphore, isNoMutex, isNoGroup, isNoChannel, asksIn, isSoundTask, isSoundSemaphore, isSoundMutex, isSoundGroup, isSoundChannel, mayWait, isSoundWait, eachOf, isSoundObjects, isSoundQueues, isWorkedOut, isSoundNumbers, isSoundWithin, isSoundRuns, isSound}
+use Rattle.rules.specs.Messages.{present, laid, holding}
 use Rattle.rules.specs.Family.{ofState, placeOf}
 use Rattle.rules.specs.Sizes.{mostCount, delayed, plain, timedOut}
 use Rattle.rules.specs.Chain.{leads, smallest, fresh}
@@ -23,12 +24,14 @@ use Rattle.rules.specs.Mutex.{handed, released}
 use Rattle.rules.specs.Mutex as mutex
 use Rattle.rules.specs.Group.{meeting, isMet, consumed, woken}
 use Rattle.rules.specs.Group as group
+use Rattle.rules.specs.Channel.{delivered}
+use Rattle.rules.specs.Channel as channel
 use Rattle.rules.specs.Tick.{turned, dueEnded, dueBelow, ticked}
-use Rattle.rules.specs.Step.{Outcome, answerTo, changeBy, forInterrupts, answer, effect, serve, step}
+use Rattle.rules.specs.Step.{Outcome, answerTo, changeBy, toldBy, forInterrupts, answer, effect, serve, step}
 use Rattle.rules.specs.Kinds.{toldIn, widths, ofKind, reading, spelled}
 use Rattle.rules.specs.Tape.{little, sum, numbers, bodyLength, callIn, decimal, runner, line, printedOf, printed, tape}
 use Rattle.rules.specs.declared.Call.{Call}
-use Rattle.rules.specs.declared.Call.the-variants.{TaskCreate, Suspend, Resume, Delay, Lock, Unlock, Tick, SetDefaultQuantum, SemaphoreCreate, SemaphoreWait, SemaphorePost, MutexCreate, MutexWait, MutexPost, GroupCreate, GroupWait, GroupPost}
+use Rattle.rules.specs.declared.Call.the-variants.{TaskCreate, Suspend, Resume, Delay, Lock, Unlock, Tick, SetDefaultQuantum, SemaphoreCreate, SemaphoreWait, SemaphorePost, MutexCreate, MutexWait, MutexPost, GroupCreate, GroupWait, GroupPost, ChannelCreate, ChannelWait, ChannelPost, ChannelFlush}
 
 -- ---- calls that tasks make, one after another, on sound tables
 
@@ -122,6 +125,31 @@ clock t = serve (GroupPost 0 2 1) true t
 abbrev pub film-house : ℕ → ℕ → Table
 film-house a b = after freshTable (SetDefaultQuantum a ∷ TaskCreate 1 5 0 ∷ SetDefaultQuantum b ∷ TaskCreate 2 5 0 ∷ [])
 
+-- "The reader hands frame numbers to the decoder": task 1, the reader, has posted frames 1 to 3 into channel 0, which has room for 2. Then the decoder,
+-- task 2, is there.
+abbrev frames : List Call
+frames = ChannelPost 0 1 0 ∷ ChannelPost 0 2 0 ∷ ChannelPost 0 3 0 ∷ []
+
+abbrev pub reader-alone-posts : Table
+reader-alone-posts = after freshTable (TaskCreate 1 5 0 ∷ ChannelCreate 0 2 ∷ [])
+
+abbrev pub decoder-comes : Table
+decoder-comes = after reader-alone-posts (frames ++ (TaskCreate 2 4 0 ∷ []))
+
+-- Any number of waits of the decoder for a frame.
+abbrev takes-frames : ℕ → Table
+takes-frames n = after decoder-comes (many n (ChannelWait 0 1 0))
+
+-- The reader posts frame 4 to the decoder that waits, and three frames to one that does not; the last of these to the front.
+abbrev posts-on : Table → Table
+posts-on t = after t (ChannelPost 0 4 0 ∷ [])
+
+abbrev pub front-posted : Table
+front-posted = after freshTable (TaskCreate 1 5 0 ∷ ChannelCreate 0 32 ∷ ChannelPost 0 7 0 ∷ ChannelPost 0 0 0 ∷ ChannelPost 0 9 1 ∷ [])
+
+abbrev flushes : Table → Outcome
+flushes t = serve (ChannelFlush 0) false t
+
 -- Who runs after each of six ticks.
 abbrev six-ticks : Table → List ℕ
 six-ticks t = runs t (many 6 Tick)
@@ -165,7 +193,7 @@ pub record Bench : Type 0 where
   -- P10. "Tick on the fresh table: 0, counter 1, none."
   pub p10 : (answers freshTable (Tick ∷ []) ≡ 0 ∷ []) × (after freshTable (Tick ∷ []) .tick ≡ 1) × (runs freshTable (Tick ∷ []) ≡ 0 ∷ [])
   -- Each of these tables is sound, so `serve` is what the kernel does there.
-  pub sound : (isSound p2-table ≡ true) × (isSound p3-table ≡ true) × (isSound p4-table ≡ true) × (isSound p5-table ≡ true) × (isSound p8-table ≡ true) × (isSound suspended-waiter ≡ true) × (isSound reader-waits ≡ true) × (isSound two-wait ≡ true)
+  pub sound : (isSound p2-table ≡ true) × (isSound p3-table ≡ true) × (isSound p4-table ≡ true) × (isSound p5-table ≡ true) × (isSound p8-table ≡ true) × (isSound suspended-waiter ≡ true) × (isSound reader-waits ≡ true) × (isSound two-wait ≡ true) × (isSound decoder-comes ≡ true) × (isSound (takes-frames 3) ≡ true) × (isSound front-posted ≡ true)
   -- An easy slip that those ten do not show: "A suspended waiter dropped from its queue." It stays there and is given the semaphore,
   -- and is able once it is resumed.
   pub waits-on : firstIn (semaphoreQueue 0) suspended-waiter ≡ written 1
@@ -184,9 +212,17 @@ pub record Bench : Type 0 where
   pub film-fresh : taskOf (after freshTable (TaskCreate 1 5 0 ∷ [])) 1 .left ≡ 100
   -- "setting the default to 0 gets 4"
   pub film-refused : answers freshTable (SetDefaultQuantum 0 ∷ SetDefaultQuantum 65536 ∷ SetDefaultQuantum 65535 ∷ SetDefaultQuantum 1 ∷ []) ≡ 4 ∷ 4 ∷ 0 ∷ 0 ∷ []
+  -- "The reader hands frame numbers to the decoder through a private array that overran": the third is refused, and nothing is overwritten.
+  pub frames-posted : (answers reader-alone-posts frames ≡ 0 ∷ 0 ∷ 16 ∷ []) × (present decoder-comes 0 ≡ 1 ∷ 2 ∷ [])
+  pub frames-taken : (answers decoder-comes (many 3 (ChannelWait 0 1 0)) ≡ 0 ∷ 0 ∷ 14 ∷ []) × (taskOf (takes-frames 1) 2 .message ≡ 1) × (taskOf (takes-frames 2) 2 .message ≡ 2) × (takes-frames 3 .running ≡ written 1)
+  -- "with a waiter, the message goes to the first waiter directly and stands in its record"
+  pub frame-given : (taskOf (posts-on (takes-frames 3)) 2 .message ≡ 4) × (taskOf (posts-on (takes-frames 3)) 2 .state ≡ plain) × (posts-on (takes-frames 3) .running ≡ written 2) × (present (posts-on (takes-frames 3)) 0 ≡ [])
+  -- "A post goes to the end or to the front"; "Flush empties the queue and tells how many messages went"
+  pub front-first : present front-posted 0 ≡ 9 ∷ 7 ∷ 0 ∷ []
+  pub frames-flushed : (flushes front-posted .further ≡ 3) × (present (flushes front-posted .table) 0 ≡ []) × (flushes (flushes front-posted .table) .further ≡ 0)
 
 pub bench : Bench
-unfolding firstAt later push pull opened closed leads smallest fresh walkOn freshTable isAble placeOf works leave join stays put rotate holderOf next freshIn ended endedAll chosen peerBelow quantumOf defaultAnswer setDefault createAnswer create suspendAnswer suspend resumeAnswer resume delayAnswer delay lockAnswer lock unlockAnswer unlock objectCreateAnswer blocked waits taken semaphore.create semaphore.waitAnswer semaphore.wait semaphore.postAnswer semaphore.post mutex.create mutex.waitAnswer mutex.wait mutex.postAnswer handed released mutex.post meeting isMet consumed woken group.create group.waitAnswer group.wait group.postAnswer group.post turned dueEnded dueBelow ticked answerTo changeBy forInterrupts answer effect serve toldIn widths ofKind reading spelled little sum numbers bodyLength callIn decimal runner line printedOf printed tape step count mayPrecede fits isOrdered each isShaped marksIn isTaskInRange isNoTask isNoSemaphore isNoMutex isNoGroup asksIn isSoundTask isSoundSemaphore isSoundMutex isSoundGroup mayWait ofState eachOf isSoundWait isSoundObjects isSoundQueues isWorkedOut isSoundNumbers isSoundWithin isSoundRuns isSound after answers runs
+unfolding firstAt later push pull opened closed leads smallest fresh walkOn freshTable isAble placeOf works leave join stays put rotate holderOf next freshIn ended endedAll chosen peerBelow quantumOf defaultAnswer setDefault createAnswer create suspendAnswer suspend resumeAnswer resume delayAnswer delay lockAnswer lock unlockAnswer unlock objectCreateAnswer blocked waits taken semaphore.create semaphore.waitAnswer semaphore.wait semaphore.postAnswer semaphore.post mutex.create mutex.waitAnswer mutex.wait mutex.postAnswer handed released mutex.post meeting isMet consumed woken group.create group.waitAnswer group.wait group.postAnswer group.post present laid holding delivered channel.createAnswer channel.create channel.waitAnswer channel.wait channel.postAnswer channel.post channel.flushAnswer channel.flush turned dueEnded dueBelow ticked answerTo changeBy toldBy forInterrupts answer effect serve toldIn widths ofKind reading spelled little sum numbers bodyLength callIn decimal runner line printedOf printed tape step count mayPrecede fits isOrdered each isShaped marksIn isTaskInRange isNoTask isNoSemaphore isNoMutex isNoGroup isNoChannel asksIn isSoundTask isSoundSemaphore isSoundMutex isSoundGroup isSoundChannel mayWait ofState eachOf isSoundWait isSoundObjects isSoundQueues isWorkedOut isSoundNumbers isSoundWithin isSoundRuns isSound after answers runs
 bench =
     record {
       p1 = refl;
@@ -210,7 +246,7 @@ bench =
       p8 = (refl, refl);
       p9 = refl;
       p10 = (refl, refl, refl);
-      sound = (refl, refl, refl, refl, refl, refl, refl, refl);
+      sound = (refl, refl, refl, refl, refl, refl, refl, refl, refl, refl, refl);
       waits-on = refl;
       is-given = (refl, refl);
       reader-alone = refl;
@@ -223,4 +259,9 @@ bench =
       film-set = refl;
       film-fresh = refl;
       film-refused = refl;
+      frames-posted = (refl, refl);
+      frames-taken = (refl, refl, refl, refl);
+      frame-given = (refl, refl, refl, refl);
+      front-first = refl;
+      frames-flushed = (refl, refl, refl);
     }

@@ -6,9 +6,10 @@ use mathlib.Core.List.{List, [], _∷_}
 use Prim.Native.Nat.{ℕ, _+_}
 use lib.Dec.{eqb, ltb}
 use lib.ListN.{length}
-use Rattle.rules.specs.Sizes.{taskCount, semaphoreCount, mutexCount, groupCount, delayed, waitsSemaphore, waitsMutex, waitsFlags}
+use Rattle.rules.specs.Sizes.{taskCount, semaphoreCount, mutexCount, groupCount, channelCount, delayed, waitsSemaphore, waitsMutex, waitsFlags, waitsMessage}
 use Rattle.rules.specs.declared.Task.{Task}
-use Rattle.rules.specs.Table.{Table, semaphoreOf, mutexOf, groupOf, holderOf, queueCount, ableQueue, semaphoreQueue, mutexQueue, groupQueue, isAble, noSemaphore, noMutex, noGroup, withSemaphore, withMutex, withGroup}
+use Rattle.rules.specs.Table.{Table, semaphoreOf, mutexOf, groupOf, channelOf, holderOf, queueCount, ableQueue, semaphoreQueue, mutexQueue, groupQueue, channelQueue, isAble, noSemaphore, noMutex, noGroup, noChannel, withSemaphore, withMutex, withGroup, withChannel}
+use Rattle.rules.specs.Messages.{holding}
 
 pub record Family : Type 0 where
   -- the state of a task that waits for one of them, how many there are, and the queue of number 0, before those of the others
@@ -67,9 +68,22 @@ groups =
       holder = λ t g. taskCount;
     }
 
+-- A message queue with a message has one to take; it has no holder. Where it goes its messages go.
+abbrev pub channels : Family
+channels =
+    record {
+      state = waitsMessage;
+      count = channelCount;
+      first = channelQueue 0;
+      used = λ t c. channelOf t c .used;
+      gone = λ c t. withChannel c noChannel (holding c [] t);
+      offers = λ t c. ltb 0 (channelOf t c .held);
+      holder = λ t c. taskCount;
+    }
+
 -- All of them, in the order of their states and of their queues.
 abbrev pub families : List Family
-families = semaphores ∷ mutexes ∷ groups ∷ []
+families = semaphores ∷ mutexes ∷ groups ∷ channels ∷ []
 
 -- The states are those of no wait and one for each family.
 abbrev pub lastState : ℕ

@@ -11,7 +11,7 @@ use borrow.Author.Tests.{ne-eqb, leb-true}
 use Rattle.queue.specs.Order.{All, none, more}
 use Rattle.rules.specs.Kinds.{Kind, kinds, toldIn, widths, ofKind, reading, spelled, kindOf, numbersOf}
 use Rattle.rules.specs.declared.Call.{Call}
-use Rattle.rules.specs.declared.Call.the-variants.{TaskCreate, TaskDelete, ChangePriority, Suspend, Resume, Yield, Delay, DelayResume, Lock, Unlock, Tick, SetDefaultQuantum, SemaphoreCreate, SemaphoreDelete, SemaphoreWait, SemaphorePost, SemaphoreAbort, MutexCreate, MutexDelete, MutexWait, MutexPost, MutexAbort, GroupCreate, GroupDelete, GroupWait, GroupPost, GroupAbort}
+use Rattle.rules.specs.declared.Call.the-variants.{TaskCreate, TaskDelete, ChangePriority, Suspend, Resume, Yield, Delay, DelayResume, Lock, Unlock, Tick, SetDefaultQuantum, SemaphoreCreate, SemaphoreDelete, SemaphoreWait, SemaphorePost, SemaphoreAbort, MutexCreate, MutexDelete, MutexWait, MutexPost, MutexAbort, GroupCreate, GroupDelete, GroupWait, GroupPost, GroupAbort, ChannelCreate, ChannelDelete, ChannelWait, ChannelPost, ChannelAbort, ChannelFlush}
 use Rattle.rules.specs.declared.Reading.the-variants.{Says}
 
 -- ---- what is told of a kind
@@ -67,7 +67,7 @@ narrow s a = record { six = s; four = all-at {P = λ w. w ≤ 4} (omega arith) a
 
 pub widths-narrow : (k : ℕ) → Narrow (widths k)
 unfolding widths
-widths-narrow k = told-each Narrow kinds k (λ r. r .widths) [] (search (end, with, narrow, none, more, leb-true) depth 60 fits 8000) (search (narrow, none, leb-true))
+widths-narrow k = told-each Narrow kinds k (λ r. r .widths) [] (search (end, with, narrow, none, more, leb-true) depth 80 fits 12000) (search (narrow, none, leb-true))
 
 -- The same numbers, with any number of zeros behind them,
 abbrev pub Same : List ℕ → List ℕ → Type 0
@@ -110,3 +110,9 @@ said-back (GroupDelete g force) interrupt = refl
 said-back (GroupWait g block limit mask test consume) interrupt = refl
 said-back (GroupPost g mask on) interrupt = refl
 said-back (GroupAbort g) interrupt = refl
+said-back (ChannelCreate c capacity) interrupt = refl
+said-back (ChannelDelete c force) interrupt = refl
+said-back (ChannelWait c block limit) interrupt = refl
+said-back (ChannelPost c message front) interrupt = refl
+said-back (ChannelAbort c) interrupt = refl
+said-back (ChannelFlush c) interrupt = refl

@@ -5,7 +5,7 @@ use Prim.Native.Nat.{ℕ, _-_}
 use lib.Dec.{eqb, leb}
 use lib.ListN.{getD, drop}
 use Rattle.rules.specs.declared.Call.{Call}
-use Rattle.rules.specs.declared.Call.the-variants.{TaskCreate, TaskDelete, ChangePriority, Suspend, Resume, Yield, Delay, DelayResume, Lock, Unlock, Tick, SetDefaultQuantum, SemaphoreCreate, SemaphoreDelete, SemaphoreWait, SemaphorePost, SemaphoreAbort, MutexCreate, MutexDelete, MutexWait, MutexPost, MutexAbort, GroupCreate, GroupDelete, GroupWait, GroupPost, GroupAbort}
+use Rattle.rules.specs.declared.Call.the-variants.{TaskCreate, TaskDelete, ChangePriority, Suspend, Resume, Yield, Delay, DelayResume, Lock, Unlock, Tick, SetDefaultQuantum, SemaphoreCreate, SemaphoreDelete, SemaphoreWait, SemaphorePost, SemaphoreAbort, MutexCreate, MutexDelete, MutexWait, MutexPost, MutexAbort, GroupCreate, GroupDelete, GroupWait, GroupPost, GroupAbort, ChannelCreate, ChannelDelete, ChannelWait, ChannelPost, ChannelAbort, ChannelFlush}
 use Rattle.rules.specs.declared.Reading.{Reading}
 use Rattle.rules.specs.declared.Reading.the-variants.{Says, Unknown}
 
@@ -26,12 +26,17 @@ byTasks byte widths call = record { byte = byte; widths = widths; interrupts = f
 abbrev pub byAll : ℕ → List ℕ → ((ℕ → ℕ) → Call) → Kind
 byAll byte widths call = record { byte = byte; widths = widths; interrupts = true; call = call }
 
+-- The kind of the call that has a further result.
+abbrev pub flushKind : ℕ
+flushKind = 0x45
+
 -- "01 task create (number, base, quantum 2 bytes); 02 delete (number); 03 change priority (number, base); 04 suspend; 05 resume (number
 -- each); 06 yield; 07 delay (4 bytes); 08 delay resume (number); 09 lock; 0A unlock; 0B tick; 10 semaphore create (number, count 4 bytes);
 -- 11 delete (number, force); 12 wait (number, block, limit 4 bytes); 13 post; 14 abort (number each); 20 mutex create (number); 21 delete,
 -- 22 wait as 11, 12; 23 post; 24 abort (number each)." And of groups of flags 30 create (number, flags 4 bytes); 31 delete as 11; 32 wait
 -- (number, block, limit 4 bytes, mask 4 bytes, test, consume); 33 post (number, mask 4 bytes, 1 set or 0 clear); 34 abort (number). And 0D
--- default quantum (2 bytes).
+-- default quantum (2 bytes). And of channels 40 create (number, capacity); 41 delete, 42 wait as 11, 12; 43 post (number, message 4 bytes, 1 front or
+-- 0 end); 44 abort; 45 flush (number each).
 abbrev pub kinds : List Kind
 kinds =
     byTasks 0x01 (1 ∷ 1 ∷ 2 ∷ []) (λ n. TaskCreate (n 0) (n 1) (n 2))
@@ -61,6 +66,12 @@ kinds =
     ∷ byTasks 0x32 (1 ∷ 1 ∷ 4 ∷ 4 ∷ 1 ∷ 1 ∷ []) (λ n. GroupWait (n 0) (n 1) (n 2) (n 3) (n 4) (n 5))
     ∷ byAll 0x33 (1 ∷ 4 ∷ 1 ∷ []) (λ n. GroupPost (n 0) (n 1) (n 2))
     ∷ byTasks 0x34 (1 ∷ []) (λ n. GroupAbort (n 0))
+    ∷ byTasks 0x40 (1 ∷ 1 ∷ []) (λ n. ChannelCreate (n 0) (n 1))
+    ∷ byTasks 0x41 (1 ∷ 1 ∷ []) (λ n. ChannelDelete (n 0) (n 1))
+    ∷ byTasks 0x42 (1 ∷ 1 ∷ 4 ∷ []) (λ n. ChannelWait (n 0) (n 1) (n 2))
+    ∷ byAll 0x43 (1 ∷ 4 ∷ 1 ∷ []) (λ n. ChannelPost (n 0) (n 1) (n 2))
+    ∷ byTasks 0x44 (1 ∷ []) (λ n. ChannelAbort (n 0))
+    ∷ byTasks flushKind (1 ∷ []) (λ n. ChannelFlush (n 0))
     ∷ []
 
 -- What is told of the kind with the byte k; `lacking` where the list has none.
@@ -126,6 +137,12 @@ spelled (GroupDelete g force) = 0x31 ∷ g ∷ force ∷ []
 spelled (GroupWait g block limit mask test consume) = 0x32 ∷ g ∷ block ∷ limit ∷ mask ∷ test ∷ consume ∷ []
 spelled (GroupPost g mask on) = 0x33 ∷ g ∷ mask ∷ on ∷ []
 spelled (GroupAbort g) = 0x34 ∷ g ∷ []
+spelled (ChannelCreate c capacity) = 0x40 ∷ c ∷ capacity ∷ []
+spelled (ChannelDelete c force) = 0x41 ∷ c ∷ force ∷ []
+spelled (ChannelWait c block limit) = 0x42 ∷ c ∷ block ∷ limit ∷ []
+spelled (ChannelPost c message front) = 0x43 ∷ c ∷ message ∷ front ∷ []
+spelled (ChannelAbort c) = 0x44 ∷ c ∷ []
+spelled (ChannelFlush c) = flushKind ∷ c ∷ []
 
 abbrev pub kindOf : Call → ℕ
 kindOf c = getD (spelled c) 0 0

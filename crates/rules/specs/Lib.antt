@@ -1,5 +1,6 @@
 pub mod Sizes
 pub mod Table
+pub mod Messages
 pub mod Family
 pub mod Chain
 pub mod Afresh
@@ -16,6 +17,7 @@ pub mod Object
 pub mod Semaphore
 pub mod Mutex
 pub mod Group
+pub mod Channel
 pub mod Tick
 pub mod Kinds
 pub mod KindLaws

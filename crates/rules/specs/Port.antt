@@ -12,7 +12,7 @@ use Rattle.rules.specs.declared.Reading.the-variants.{Says, Unknown}
 
 -- "(port only) a call kind that the tape's list lacks": 1; with the interrupt bit 5, which comes first; 15 comes before both.
 unfoldable pub unknown : Bool → Table → Outcome
-unknown interrupt t = cond (isSound t) (record { answer = cond interrupt byInterrupt beyondRange; table = t; runs = t .running }) (unsound t)
+unknown interrupt t = cond (isSound t) (record { answer = cond interrupt byInterrupt beyondRange; table = t; runs = t .running; further = 0 }) (unsound t)
 
 unfoldable pub says : Reading → Table → Outcome
 says (Says c interrupt) t = step c interrupt t

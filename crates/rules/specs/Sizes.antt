@@ -16,6 +16,13 @@ mutexCount = 16
 abbrev pub groupCount : ℕ
 groupCount = 8
 
+-- "16 queues of up to 32 messages": channels, and the slots of each
+abbrev pub channelCount : ℕ
+channelCount = 16
+
+abbrev pub mostMessages : ℕ
+mostMessages = 32
+
 -- ---- "Priorities 0 to 62; 0 is the most urgent."
 
 abbrev pub lastPriority : ℕ
@@ -46,6 +53,10 @@ ticksRound = 4294967296
 abbrev pub flagSets : ℕ
 flagSets = 4294967296
 
+-- a message is "a 32-bit number"
+abbrev pub greatestMessage : ℕ
+greatestMessage = 4294967295
+
 -- ---- "a state (plain, delayed, waiting for semaphore s, waiting for mutex m)"
 
 abbrev pub plain : ℕ
@@ -62,6 +73,9 @@ waitsMutex = 3
 
 abbrev pub waitsFlags : ℕ
 waitsFlags = 4
+
+abbrev pub waitsMessage : ℕ
+waitsMessage = 5
 
 -- ---- "one of four tests: all set, any set, all clear, any clear"
 
@@ -113,15 +127,17 @@ abbrev pub inUse : ℕ
 inUse = 3
 
 -- 4: "base priority above 62, a yes/no byte above 1, a delay of 0 ticks, or (port only) a quantum above 65,535"; "a mask of 0 or a fifth test"; "setting the
--- default to 0"
+-- default to 0"; "capacity 0 or above 32"
 abbrev pub badValue : ℕ
 badValue = 4
 
--- 5: "made by an interrupt, and not a tick or a semaphore post"; of flags, "a post by an interrupt no longer 5"
+-- 5: "made by an interrupt, and not a tick or a semaphore post"; of flags, "a post by an interrupt no longer 5"; of messages,
+-- "a post by an interrupt is not refused with 5"
 abbrev pub byInterrupt : ℕ
 byInterrupt = 5
 
--- 6: "yield, delay, semaphore or mutex wait, mutex post: none is running"; of flags, "6 (a wait)"
+-- 6: "yield, delay, semaphore or mutex wait, mutex post: none is running"; of flags, "6 (a wait)"; of messages, a wait is "as for
+-- semaphores"
 abbrev pub noneRunning : ℕ
 noneRunning = 6
 
@@ -161,3 +177,7 @@ blocks = 14
 -- 15: "the table is not sound, or its image has the wrong length"
 abbrev pub notSound : ℕ
 notSound = 15
+
+-- 16: "16, after 4, for a post to a full queue"
+abbrev pub channelFull : ℕ
+channelFull = 16

@@ -5,17 +5,18 @@ use mathlib.Core.Bool.{Bool, true, false, cond, not, _&&_, _||_}
 use mathlib.Core.List.{List, [], _∷_}
 use Prim.Native.Nat.{ℕ, zero, suc, _-_, _≤_, _<_}
 use lib.Dec.{eqb, ltb, leb}
-use lib.ListN.{length}
+use lib.ListN.{length, getD}
 use Rattle.queue.specs.Order.{All, Ordered, count, isOrdered}
-use Rattle.rules.specs.Sizes.{taskCount, semaphoreCount, mutexCount, groupCount, lastPriority, mostNested, mostQuantum, mostCount, ticksRound, flagSets, testCount, plain, delayed, waitsFlags, objectDeleted}
+use Rattle.rules.specs.Sizes.{taskCount, semaphoreCount, mutexCount, groupCount, channelCount, mostMessages, greatestMessage, lastPriority, mostNested, mostQuantum, mostCount, ticksRound, flagSets, testCount, plain, delayed, waitsFlags, objectDeleted}
 use Rattle.rules.specs.Chain.{Fresh}
-use Rattle.rules.specs.Table.{Table, taskOf, semaphoreOf, mutexOf, groupOf, queueOf, queueCount, ableQueue, firstIn, works, isAble, written, noTask, noSemaphore, noMutex, noGroup}
+use Rattle.rules.specs.Table.{Table, taskOf, semaphoreOf, mutexOf, groupOf, channelOf, rowOf, queueOf, queueCount, ableQueue, firstIn, works, isAble, written, noTask, noSemaphore, noMutex, noGroup, noChannel}
 use Rattle.rules.specs.Move.{next, baseOf, freshIn}
 use Rattle.rules.specs.Family.{Family, Among, families, lastState, objectsIn, placeOf}
 use Rattle.rules.specs.declared.Task.{Task}
 use Rattle.rules.specs.declared.Semaphore.{Semaphore}
 use Rattle.rules.specs.declared.Mutex.{Mutex}
 use Rattle.rules.specs.declared.Group.{Group}
+use Rattle.rules.specs.declared.Channel.{Channel}
 
 -- ---- each number below n
 
@@ -50,8 +51,11 @@ pub record Shaped (t : Table) : Type 0 where
   pub semaphores : length (t .semaphores) ≡ semaphoreCount
   pub mutexes : length (t .mutexes) ≡ mutexCount
   pub groups : length (t .groups) ≡ groupCount
+  pub channels : length (t .channels) ≡ channelCount
   pub queues : length (t .queues) ≡ queueCount
   pub slots : Each queueCount (λ q. length (queueOf t q) ≡ taskCount)
+  pub messages : length (t .messages) ≡ channelCount
+  pub rows : Each channelCount (λ c. length (rowOf t c) ≡ mostMessages)
 
 unfoldable pub isShaped : Table → Bool
 isShaped t =
@@ -59,8 +63,11 @@ isShaped t =
     && (eqb (length (t .semaphores)) semaphoreCount
     && (eqb (length (t .mutexes)) mutexCount
     && (eqb (length (t .groups)) groupCount
+    && (eqb (length (t .channels)) channelCount
     && (eqb (length (t .queues)) queueCount
-    && each queueCount (λ q. eqb (length (queueOf t q)) taskCount)))))
+    && (each queueCount (λ q. eqb (length (queueOf t q)) taskCount)
+    && (eqb (length (t .messages)) channelCount
+    && each channelCount (λ c. eqb (length (rowOf t c)) mostMessages))))))))
 
 -- ---- "All fields are in range"
 
@@ -87,6 +94,7 @@ pub record TaskInRange (k : Task) : Type 0 where
   pub mask : k .mask < asksIn (k .state) flagSets
   pub test : k .test < asksIn (k .state) testCount
   pub consume : k .consume < asksIn (k .state) 2
+  pub message : k .message ≤ greatestMessage
 
 unfoldable pub isTaskInRange : Task → Bool
 isTaskInRange k =
@@ -103,7 +111,8 @@ isTaskInRange k =
     && (leb (k .outcome) objectDeleted
     && (ltb (k .mask) (asksIn (k .state) flagSets)
     && (ltb (k .test) (asksIn (k .state) testCount)
-    && ltb (k .consume) (asksIn (k .state) 2)))))))))))))
+    && (ltb (k .consume) (asksIn (k .state) 2)
+    && leb (k .message) greatestMessage)))))))))))))
 
 -- ---- "a free number has zero fields"
 
@@ -123,7 +132,8 @@ isNoTask k =
     && (eqb (k .outcome) 0
     && (eqb (k .mask) 0
     && (eqb (k .test) 0
-    && eqb (k .consume) 0))))))))))))
+    && (eqb (k .consume) 0
+    && eqb (k .message) 0)))))))))))))
 
 unfoldable pub isNoSemaphore : Semaphore → Bool
 isNoSemaphore x = eqb (x .used) 0 && eqb (x .count) 0
@@ -133,6 +143,9 @@ isNoMutex x = eqb (x .used) 0 && (eqb (x .holder) 0 && eqb (x .nesting) 0)
 
 unfoldable pub isNoGroup : Group → Bool
 isNoGroup x = eqb (x .used) 0 && eqb (x .flags) 0
+
+unfoldable pub isNoChannel : Channel → Bool
+isNoChannel x = eqb (x .used) 0 && (eqb (x .capacity) 0 && eqb (x .held) 0)
 
 -- ---- a task
 
@@ -198,8 +211,30 @@ pub record SoundGroup (x : Group) : Type 0 where
 unfoldable pub isSoundGroup : Group → Bool
 isSoundGroup x = leb (x .used) 1 && (ltb (x .flags) flagSets && implies (eqb (x .used) 0) (isNoGroup x))
 
+-- "the capacity 1 to 32 fixed at creation", "up to 32 messages, each a 32-bit number": a channel with its row. The messages stand packed from the
+-- first slot on, and a slot without one is 0.
+pub record SoundChannel (x : Channel) (row : List ℕ) : Type 0 where
+  pub used : x .used ≤ 1
+  pub capacity : x .capacity ≤ mostMessages
+  pub held : x .held ≤ x .capacity
+  pub free : x .used ≡ 0 → x ≡ noChannel
+  pub room : x .used ≡ 1 → 1 ≤ x .capacity
+  pub messages : Each mostMessages (λ j. getD row j 0 ≤ greatestMessage)
+  pub unused : Each mostMessages (λ j. x .held ≤ j → getD row j 0 ≡ 0)
+
+unfoldable pub isSoundChannel : Channel → List ℕ → Bool
+isSoundChannel x row =
+    leb (x .used) 1
+    && (leb (x .capacity) mostMessages
+    && (leb (x .held) (x .capacity)
+    && (implies (eqb (x .used) 0) (isNoChannel x)
+    && (implies (eqb (x .used) 1) (leb 1 (x .capacity))
+    && (each mostMessages (λ j. leb (getD row j 0) greatestMessage)
+    && each mostMessages (λ j. implies (leb (x .held) j) (eqb (getD row j 0) 0)))))))
+
 -- Task i may wait for number o of the family: "Waited-for objects are in use"; what has something to take has no waiter ("A free mutex has
--- .. no waiter", "a semaphore with a waiter has count 0"); "a holder .. does not wait for the mutex it holds".
+-- .. no waiter", "a semaphore with a waiter has count 0", "A queue
+-- with a waiter is empty"); "a holder .. does not wait for the mutex it holds".
 pub record MayWait (f : Family) (t : Table) (i o : ℕ) : Type 0 where
   pub used : f .used t o ≡ 1
   pub nothing : f .offers t o ≡ true → ⊥
@@ -219,6 +254,7 @@ pub record SoundObjects (t : Table) : Type 0 where
   pub semaphores : Each semaphoreCount (λ s. SoundSemaphore (semaphoreOf t s))
   pub mutexes : Each mutexCount (λ m. SoundMutex (mutexOf t m))
   pub groups : Each groupCount (λ g. SoundGroup (groupOf t g))
+  pub channels : Each channelCount (λ c. SoundChannel (channelOf t c) (rowOf t c))
   pub waits : Each taskCount (λ i. SoundWait t i (taskOf t i .state) (taskOf t i .object))
   -- "a holder is in use"
   pub holders : Each mutexCount (λ m. (mutexOf t m .holder ≡ 0 → ⊥) → taskOf t (mutexOf t m .holder - 1) .used ≡ 1)
@@ -228,8 +264,9 @@ isSoundObjects t =
     each semaphoreCount (λ s. isSoundSemaphore (semaphoreOf t s))
     && (each mutexCount (λ m. isSoundMutex (mutexOf t m))
     && (each groupCount (λ g. isSoundGroup (groupOf t g))
+    && (each channelCount (λ c. isSoundChannel (channelOf t c) (rowOf t c))
     && (each taskCount (λ i. isSoundWait t i (taskOf t i .state) (taskOf t i .object))
-    && each mutexCount (λ m. implies (not (eqb (mutexOf t m .holder) 0)) (eqb (taskOf t (mutexOf t m .holder - 1) .used) 1)))))
+    && each mutexCount (λ m. implies (not (eqb (mutexOf t m .holder) 0)) (eqb (taskOf t (mutexOf t m .holder - 1) .used) 1))))))
 
 -- ---- the queues
 

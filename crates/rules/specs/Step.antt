@@ -12,14 +12,16 @@ use Rattle.rules.specs.Lock.{lockAnswer, lock, unlockAnswer, unlock}
 use Rattle.rules.specs.Quantum.{defaultAnswer, setDefault}
 use Rattle.rules.specs.Object.{objectCreateAnswer, objectDeleteAnswer, objectDelete, objectAbortAnswer, objectAbort}
 use Rattle.rules.specs.Semaphore as semaphore
-use Rattle.rules.specs.Family.{semaphores, mutexes, groups}
+use Rattle.rules.specs.Family.{semaphores, mutexes, groups, channels}
 use Rattle.rules.specs.Mutex as mutex
 use Rattle.rules.specs.Group as group
+use Rattle.rules.specs.Channel.{flushed}
+use Rattle.rules.specs.Channel as channel
 use Rattle.rules.specs.Tick.{ticked}
 use Rattle.rules.specs.Sound.{isSound}
-use Rattle.rules.specs.Kinds.{toldOf, kindOf, numbersOf}
+use Rattle.rules.specs.Kinds.{toldOf, flushKind, kindOf, numbersOf}
 use Rattle.rules.specs.declared.Call.{Call}
-use Rattle.rules.specs.declared.Call.the-variants.{TaskCreate, TaskDelete, ChangePriority, Suspend, Resume, Yield, Delay, DelayResume, Lock, Unlock, Tick, SetDefaultQuantum, SemaphoreCreate, SemaphoreDelete, SemaphoreWait, SemaphorePost, SemaphoreAbort, MutexCreate, MutexDelete, MutexWait, MutexPost, MutexAbort, GroupCreate, GroupDelete, GroupWait, GroupPost, GroupAbort}
+use Rattle.rules.specs.declared.Call.the-variants.{TaskCreate, TaskDelete, ChangePriority, Suspend, Resume, Yield, Delay, DelayResume, Lock, Unlock, Tick, SetDefaultQuantum, SemaphoreCreate, SemaphoreDelete, SemaphoreWait, SemaphorePost, SemaphoreAbort, MutexCreate, MutexDelete, MutexWait, MutexPost, MutexAbort, GroupCreate, GroupDelete, GroupWait, GroupPost, GroupAbort, ChannelCreate, ChannelDelete, ChannelWait, ChannelPost, ChannelAbort, ChannelFlush}
 
 -- What a call made by a task is answered on a sound table. "Order: 15, 5, 6, 1, 2 or 3, 4, then those of the call".
 unfoldable pub answerTo : Call → Table → ℕ
@@ -50,6 +52,12 @@ answerTo (GroupDelete g force) t = objectDeleteAnswer groups g force t
 answerTo (GroupWait g block limit mask test consume) t = group.waitAnswer g block (asking mask test consume) t
 answerTo (GroupPost g mask on) t = group.postAnswer g mask on t
 answerTo (GroupAbort g) t = objectAbortAnswer groups g t
+answerTo (ChannelCreate c capacity) t = channel.createAnswer c capacity t
+answerTo (ChannelDelete c force) t = objectDeleteAnswer channels c force t
+answerTo (ChannelWait c block limit) t = channel.waitAnswer c block t
+answerTo (ChannelPost c message front) t = channel.postAnswer c front t
+answerTo (ChannelAbort c) t = objectAbortAnswer channels c t
+answerTo (ChannelFlush c) t = channel.flushAnswer c t
 
 -- What it changes.
 unfoldable pub changeBy : Call → Table → Table
@@ -80,8 +88,18 @@ changeBy (GroupDelete g force) t = objectDelete groups g t
 changeBy (GroupWait g block limit mask test consume) t = group.wait g limit (asking mask test consume) t
 changeBy (GroupPost g mask on) t = group.post g mask on t
 changeBy (GroupAbort g) t = objectAbort groups g t
+changeBy (ChannelCreate c capacity) t = channel.create c capacity t
+changeBy (ChannelDelete c force) t = objectDelete channels c t
+changeBy (ChannelWait c block limit) t = channel.wait c limit t
+changeBy (ChannelPost c message front) t = channel.post c message front t
+changeBy (ChannelAbort c) t = objectAbort channels c t
+changeBy (ChannelFlush c) t = channel.flush c t
 
--- "made by an interrupt, and not a tick or a semaphore post", nor a post of flags: 5
+-- "Flush .. tells how many messages went in a further result, 0 otherwise"
+unfoldable pub toldBy : Call → Table → ℕ
+toldBy c t = cond (eqb (kindOf c) flushKind) (flushed (getD (numbersOf c) 0 0) t) 0
+
+-- "made by an interrupt, and not a tick or a semaphore post", nor a post of flags or of a message: 5
 unfoldable pub forInterrupts : Call → Bool
 forInterrupts c = toldOf (kindOf c) (λ r. r .interrupts) false
 
@@ -96,11 +114,12 @@ effect c t = chosen (changeBy c t)
 unfoldable pub Bounded : Call → Type 0
 Bounded c = (i : ℕ) → getD (numbersOf c) i 0 < ticksRound
 
--- The answer, the new table, and the task to run: its number plus 1, 0 for none.
+-- The answer, the new table, the task to run: its number plus 1, 0 for none; and the further result.
 pub record Outcome : Type 0 where
   pub answer : ℕ
   pub table : Table
   pub runs : ℕ
+  pub further : ℕ
 
 -- "0 and 14 alone change anything."
 abbrev pub changes : ℕ → Bool
@@ -112,11 +131,11 @@ serve c interrupt t =
     let n = answer c interrupt t in
     let new = effect c t in
     let after = cond (changes n) new t in
-    record { answer = n; table = after; runs = after .running }
+    record { answer = n; table = after; runs = after .running; further = cond (changes n) (toldBy c t) 0 }
 
 -- "the table is not sound": 15, and "With 15 the task to run is none."
 abbrev pub unsound : Table → Outcome
-unsound t = record { answer = notSound; table = t; runs = 0 }
+unsound t = record { answer = notSound; table = t; runs = 0; further = 0 }
 
 unfoldable pub step : Call → Bool → Table → Outcome
 step c interrupt t = let served = serve c interrupt t in cond (isSound t) served (unsound t)

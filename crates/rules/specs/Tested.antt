@@ -14,13 +14,14 @@ use Rattle.queue.specs.Checked.{whole-checked, checked-whole}
 use Rattle.rules.specs.Sizes.{taskCount}
 use Rattle.rules.specs.Chain.{Ends, Fresh, fresh}
 use Rattle.rules.specs.Afresh.{lt-or-le, fresh-is, fresh-one}
-use Rattle.rules.specs.Table.{Table, taskOf, semaphoreOf, mutexOf, groupOf, written, works, noTask, noSemaphore, noMutex, noGroup}
+use Rattle.rules.specs.Table.{Table, taskOf, semaphoreOf, mutexOf, groupOf, channelOf, rowOf, written, works, noTask, noSemaphore, noMutex, noGroup, noChannel}
 use Rattle.rules.specs.Move.{next, freshIn}
 use Rattle.rules.specs.declared.Task.{Task}
 use Rattle.rules.specs.declared.Semaphore.{Semaphore}
 use Rattle.rules.specs.declared.Mutex.{Mutex}
 use Rattle.rules.specs.declared.Group.{Group}
-use Rattle.rules.specs.Sound.{Each, once, Shaped, isShaped, TaskInRange, isTaskInRange, isNoTask, isNoSemaphore, isNoMutex, isNoGroup, SoundTask, isSoundTask, SoundSemaphore, isSoundSemaphore, SoundMutex, isSoundMutex, SoundGroup, isSoundGroup, MayWait, mayWait, SoundWait, isSoundWait, SoundObjects, isSoundObjects, SoundQueues, isSoundQueues, isWorkedOut, SoundNumbers, isSoundNumbers, SoundWithin, isSoundWithin, SoundRuns, isSoundRuns, Sound, isSound}
+use Rattle.rules.specs.declared.Channel.{Channel}
+use Rattle.rules.specs.Sound.{Each, once, Shaped, isShaped, TaskInRange, isTaskInRange, isNoTask, isNoSemaphore, isNoMutex, isNoGroup, isNoChannel, SoundTask, isSoundTask, SoundSemaphore, isSoundSemaphore, SoundMutex, isSoundMutex, SoundGroup, isSoundGroup, SoundChannel, isSoundChannel, MayWait, mayWait, SoundWait, isSoundWait, SoundObjects, isSoundObjects, SoundQueues, isSoundQueues, isWorkedOut, SoundNumbers, isSoundNumbers, SoundWithin, isSoundWithin, SoundRuns, isSoundRuns, Sound, isSound}
 use Rattle.rules.specs.Family.{Family, placeOf}
 use Rattle.rules.specs.Decides.{Decides, equals, at-most, itself, fails, if-so, either, first, last, each-one, each-of}
 
@@ -33,9 +34,12 @@ shaped t =
     first (λ s. s .semaphores) equals λ semaphores.
     first (λ s. s .mutexes) equals λ mutexes.
     first (λ s. s .groups) equals λ groups.
+    first (λ s. s .channels) equals λ channels.
     first (λ s. s .queues) equals λ queues.
-    last (λ s. s .slots) (each-one λ q l. equals) λ slots.
-    record { tasks = tasks; semaphores = semaphores; mutexes = mutexes; groups = groups; queues = queues; slots = slots }
+    first (λ s. s .slots) (each-one λ q l. equals) λ slots.
+    first (λ s. s .messages) equals λ messages.
+    last (λ s. s .rows) (each-one λ c l. equals) λ rows.
+    record { tasks = tasks; semaphores = semaphores; mutexes = mutexes; groups = groups; channels = channels; queues = queues; slots = slots; messages = messages; rows = rows }
 
 task-in-range : (k : Task) → Decides (isTaskInRange k) (TaskInRange k)
 unfolding isTaskInRange
@@ -53,8 +57,9 @@ task-in-range k =
     first (λ s. s .outcome) at-most λ outcome.
     first (λ s. s .mask) at-most λ mask.
     first (λ s. s .test) at-most λ test.
-    last (λ s. s .consume) at-most λ consume.
-    record { used = used; base = base; work = work; suspend = suspend; quantum = quantum; left = left; state = state; object = object; marked = marked; due = due; outcome = outcome; mask = mask; test = test; consume = consume }
+    first (λ s. s .consume) at-most λ consume.
+    last (λ s. s .message) at-most λ message.
+    record { used = used; base = base; work = work; suspend = suspend; quantum = quantum; left = left; state = state; object = object; marked = marked; due = due; outcome = outcome; mask = mask; test = test; consume = consume; message = message }
 
 -- ---- free numbers
 
@@ -74,8 +79,9 @@ no-task k =
     first (ap λ (x : Task). x .outcome) equals λ outcome.
     first (ap λ (x : Task). x .mask) equals λ mask.
     first (ap λ (x : Task). x .test) equals λ test.
-    last (ap λ (x : Task). x .consume) equals λ consume i.
-    record { used = used i; base = base i; work = work i; suspend = suspend i; quantum = quantum i; left = left i; state = state i; object = object i; marked = marked i; due = due i; outcome = outcome i; mask = mask i; test = test i; consume = consume i }
+    first (ap λ (x : Task). x .consume) equals λ consume.
+    last (ap λ (x : Task). x .message) equals λ message i.
+    record { used = used i; base = base i; work = work i; suspend = suspend i; quantum = quantum i; left = left i; state = state i; object = object i; marked = marked i; due = due i; outcome = outcome i; mask = mask i; test = test i; consume = consume i; message = message i }
 
 pub no-semaphore : (x : Semaphore) → Decides (isNoSemaphore x) (x ≡ noSemaphore)
 unfolding isNoSemaphore
@@ -98,6 +104,14 @@ no-group x =
     first (ap λ (x : Group). x .used) equals λ used.
     last (ap λ (x : Group). x .flags) equals λ flags i.
     record { used = used i; flags = flags i }
+
+pub no-channel : (x : Channel) → Decides (isNoChannel x) (x ≡ noChannel)
+unfolding isNoChannel
+no-channel x =
+    first (ap λ (x : Channel). x .used) equals λ used.
+    first (ap λ (x : Channel). x .capacity) equals λ capacity.
+    last (ap λ (x : Channel). x .held) equals λ held i.
+    record { used = used i; capacity = capacity i; held = held i }
 
 -- ---- tasks and objects
 
@@ -140,6 +154,18 @@ group-right x =
     last (λ r. r .free) (if-so equals (no-group x)) λ free.
     record { used = used; flags = flags; free = free }
 
+pub channel-right : (x : Channel) (row : List ℕ) → Decides (isSoundChannel x row) (SoundChannel x row)
+unfolding isSoundChannel
+channel-right x row =
+    first (λ r. r .used) at-most λ used.
+    first (λ r. r .capacity) at-most λ capacity.
+    first (λ r. r .held) at-most λ held.
+    first (λ r. r .free) (if-so equals (no-channel x)) λ free.
+    first (λ r. r .room) (if-so equals at-most) λ room.
+    first (λ r. r .messages) (each-one λ j l. at-most) λ messages.
+    last (λ r. r .unused) (each-one λ j l. if-so at-most equals) λ unused.
+    record { used = used; capacity = capacity; held = held; free = free; room = room; messages = messages; unused = unused }
+
 pub may-wait : (f : Family) (t : Table) (i o : ℕ) → Decides (mayWait f t i o) (MayWait f t i o)
 unfolding mayWait
 may-wait f t i o =
@@ -158,9 +184,10 @@ objects-right t =
     first (λ r. r .semaphores) (each-one λ s l. semaphore-right (semaphoreOf t s)) λ semaphores.
     first (λ r. r .mutexes) (each-one λ m l. mutex-right (mutexOf t m)) λ mutexes.
     first (λ r. r .groups) (each-one λ g l. group-right (groupOf t g)) λ groups.
+    first (λ r. r .channels) (each-one λ c l. channel-right (channelOf t c) (rowOf t c)) λ channels.
     first (λ r. r .waits) (each-one λ i l. wait-right t i (taskOf t i .state) (taskOf t i .object)) λ waits.
     last (λ r. r .holders) (each-one λ m l. if-so (fails equals) equals) λ holders.
-    record { semaphores = semaphores; mutexes = mutexes; groups = groups; waits = waits; holders = holders }
+    record { semaphores = semaphores; mutexes = mutexes; groups = groups; channels = channels; waits = waits; holders = holders }
 
 -- ---- queues
 

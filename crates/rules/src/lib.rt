@@ -1,7 +1,8 @@
 // The records and calls that the rules and the code share. What they mean stands in specs/.
 
 // A task. `object` is the number of the object that it waits for, and `due` its due mark; each is 0 where there is none. `mask`, `test` and
-// `consume` are what it asks of the flags that it waits for, 0 where it waits for none.
+// `consume` are what it asks of the flags that it waits for, 0 where it waits for none. `message` is the last message that it was given, 0 where
+// it has had none.
 pub struct Task {
     pub used: u8,
     pub base: u8,
@@ -17,6 +18,7 @@ pub struct Task {
     pub mask: u32,
     pub test: u8,
     pub consume: u8,
+    pub message: u32,
 }
 
 pub struct Semaphore {
@@ -35,6 +37,13 @@ pub struct Mutex {
 pub struct Group {
     pub used: u8,
     pub flags: u32,
+}
+
+// A message queue, called a channel here, since a queue is a row of tasks. `held` is how many messages it has; they stand in the table's row of it.
+pub struct Channel {
+    pub used: u8,
+    pub capacity: u8,
+    pub held: u8,
 }
 
 // A service call or tick, with its numbers in the order of the tape.
@@ -66,6 +75,12 @@ pub enum Call {
     GroupWait(u32, u32, u32, u32, u32, u32),
     GroupPost(u32, u32, u32),
     GroupAbort(u32),
+    ChannelCreate(u32, u32),
+    ChannelDelete(u32, u32),
+    ChannelWait(u32, u32, u32),
+    ChannelPost(u32, u32, u32),
+    ChannelAbort(u32),
+    ChannelFlush(u32),
 }
 
 // What a kind byte and its numbers say: a call, made by an interrupt or not, or a kind that the list lacks.

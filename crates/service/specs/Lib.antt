@@ -1,3 +1,4 @@
 pub mod Served
 pub mod Serving
+pub mod Told
 pub mod Places

@@ -14,7 +14,7 @@ use Rattle.queue.specs.Slots.{keyOf}
 use Rattle.queue.specs.Order.{one, count}
 use Rattle.rules.specs.Sizes.{taskCount}
 use Rattle.rules.specs.Table.{Table, queueOf}
-use Rattle.sound.specs.Packed.{lead, lead-none, lead-more, ofFive}
+use Rattle.sound.specs.Packed.{lead, lead-none, lead-more, ofSeven}
 use Rattle.sound.specs.Lines.{struckOut, mayStand, lined, struck, lined-free, struck-free, Walked}
 
 -- ---- a slot that is free, one that may stand there, one that may not
@@ -91,17 +91,17 @@ pub free-end : (l : List ℕ) (j : ℕ) → length l ≤ j → count 0 (drop j l
 unfolding count
 free-end l j h = rw (drop-of-length-le l h)
 
--- Of five queues.
+-- Of seven queues.
 module _ (t : Table) (q j : ℕ) where
-  pub five-at : ((p : ℕ) → p ≤ q + 4 → j < length (queueOf t p))
-      → ofFive (λ p. count 0 (drop j (queueOf t p))) q ≡ ofFive (λ p. one 0 (getD (queueOf t p) j 0)) q + ofFive (λ p. count 0 (drop (j + 1) (queueOf t p))) q
-  five-at h = omega (arith, at q (omega arith), at (q + 1) (omega arith), at (q + 2) (omega arith), at (q + 3) (omega arith), at (q + 4) (omega arith))
+  pub seven-at : ((p : ℕ) → p ≤ q + 6 → j < length (queueOf t p))
+      → ofSeven (λ p. count 0 (drop j (queueOf t p))) q ≡ ofSeven (λ p. one 0 (getD (queueOf t p) j 0)) q + ofSeven (λ p. count 0 (drop (j + 1) (queueOf t p))) q
+  seven-at h = omega (arith, at q (omega arith), at (q + 1) (omega arith), at (q + 2) (omega arith), at (q + 3) (omega arith), at (q + 4) (omega arith), at (q + 5) (omega arith), at (q + 6) (omega arith))
     where
-      at : (p : ℕ) → p ≤ q + 4 → count 0 (drop j (queueOf t p)) ≡ one 0 (getD (queueOf t p) j 0) + count 0 (drop (j + 1) (queueOf t p))
+      at : (p : ℕ) → p ≤ q + 6 → count 0 (drop j (queueOf t p)) ≡ one 0 (getD (queueOf t p) j 0) + count 0 (drop (j + 1) (queueOf t p))
       at p l = free-at (queueOf t p) j (h p l)
 
-  pub five-end : ((p : ℕ) → p ≤ q + 4 → length (queueOf t p) ≤ j) → ofFive (λ p. count 0 (drop j (queueOf t p))) q ≡ 0
-  five-end h = omega (arith, end q (omega arith), end (q + 1) (omega arith), end (q + 2) (omega arith), end (q + 3) (omega arith), end (q + 4) (omega arith))
+  pub seven-end : ((p : ℕ) → p ≤ q + 6 → length (queueOf t p) ≤ j) → ofSeven (λ p. count 0 (drop j (queueOf t p))) q ≡ 0
+  seven-end h = omega (arith, end q (omega arith), end (q + 1) (omega arith), end (q + 2) (omega arith), end (q + 3) (omega arith), end (q + 4) (omega arith), end (q + 5) (omega arith), end (q + 6) (omega arith))
     where
-      end : (p : ℕ) → p ≤ q + 4 → count 0 (drop j (queueOf t p)) ≡ 0
+      end : (p : ℕ) → p ≤ q + 6 → count 0 (drop j (queueOf t p)) ≡ 0
       end p l = free-end (queueOf t p) j (h p l)

@@ -1,5 +1,6 @@
 pub mod Tests
 pub mod Rows
+pub mod Channels
 pub mod Packed
 pub mod Lines
 pub mod Queues

@@ -109,24 +109,26 @@ unfoldable pub frees : ℕ → Table → ℕ
 frees zero t = 0
 frees (suc q) t = frees q t + count 0 (queueOf t q)
 
--- The able queue, and five queues more.
+-- The able queue, and seven queues more.
 pub frees-able : (t : Table) → frees 1 t ≡ count 0 (queueOf t ableQueue)
 unfolding frees
 frees-able t = zero-add (count 0 (queueOf t ableQueue))
 
--- The sum over five queues.
-abbrev pub ofFive : (ℕ → ℕ) → ℕ → ℕ
-ofFive f q = f q + (f (q + 1) + (f (q + 2) + (f (q + 3) + f (q + 4))))
+-- The sum over seven queues.
+abbrev pub ofSeven : (ℕ → ℕ) → ℕ → ℕ
+ofSeven f q = f q + (f (q + 1) + (f (q + 2) + (f (q + 3) + (f (q + 4) + (f (q + 5) + f (q + 6))))))
 
-pub frees-five : (q : ℕ) (t : Table) → frees (q + 5) t ≡ frees q t + ofFive (λ p. count 0 (queueOf t p)) q
+pub frees-seven : (q : ℕ) (t : Table) → frees (q + 7) t ≡ frees q t + ofSeven (λ p. count 0 (queueOf t p)) q
 unfolding frees
-frees-five q t =
+frees-seven q t =
     let one : q + 1 ≡ suc q = omega arith in
     let two : q + 2 ≡ suc (suc q) = omega arith in
     let three : q + 3 ≡ suc (suc (suc q)) = omega arith in
     let four : q + 4 ≡ suc (suc (suc (suc q))) = omega arith in
     let five : q + 5 ≡ suc (suc (suc (suc (suc q)))) = omega arith in
-    rw (one, two, three, four, five) (omega arith)
+    let six : q + 6 ≡ suc (suc (suc (suc (suc (suc q))))) = omega arith in
+    let seven : q + 7 ≡ suc (suc (suc (suc (suc (suc (suc q)))))) = omega arith in
+    rw (one, two, three, four, five, six, seven) (omega arith)
 
 pub frees-grow : (q n : ℕ) (t : Table) → frees q t ≤ frees (q + n) t
 unfolding frees

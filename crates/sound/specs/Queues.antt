@@ -13,7 +13,7 @@ use lib.ListN.{length, getD, set, length-set}
 use lib.Seq.{getD-set-same, getD-set-other}
 use borrow.Author.Tests.{eq-eqb, ne-eqb}
 use Rattle.queue.specs.Order.{count}
-use Rattle.rules.specs.Sizes.{taskCount, semaphoreCount, mutexCount, groupCount, waitsSemaphore, waitsMutex, waitsFlags}
+use Rattle.rules.specs.Sizes.{taskCount, semaphoreCount, mutexCount, groupCount, channelCount, waitsSemaphore, waitsMutex, waitsFlags, waitsMessage}
 use Rattle.rules.specs.declared.Task.{Task}
 use Rattle.rules.specs.Table.{Table, taskOf, queueOf, queueCount, written, works}
 use Rattle.rules.specs.Family.{ofState, objectsIn, placeOf}
@@ -150,13 +150,14 @@ place-most {k} r = go (place k)
 -- Its object's number is small, whatever it waits for.
 pub object-most : {k : Task} → SoundTask k → k .object ≤ queueCount
 unfolding ofState
-object-most {k} r = go (eqb (k .state) waitsSemaphore) (eqb (k .state) waitsMutex) (eqb (k .state) waitsFlags) (r .inRange .object)
+object-most {k} r = go (eqb (k .state) waitsSemaphore) (eqb (k .state) waitsMutex) (eqb (k .state) waitsFlags) (eqb (k .state) waitsMessage) (r .inRange .object)
   where
-    go : (a b c : Bool) → k .object < cond a semaphoreCount (cond b mutexCount (cond c groupCount 1)) → k .object ≤ queueCount
-    go true b c h = omega arith
-    go false true c h = omega arith
-    go false false true h = omega arith
-    go false false false h = omega arith
+    go : (a b c d : Bool) → k .object < cond a semaphoreCount (cond b mutexCount (cond c groupCount (cond d channelCount 1))) → k .object ≤ queueCount
+    go true b c d h = omega arith
+    go false true c d h = omega arith
+    go false false true d h = omega arith
+    go false false false true h = omega arith
+    go false false false false h = omega arith
 
 module _ {t : Table} {spots : List ℕ} (shaped : Shaped t) (tasks : SoundTasks t) (spotted : Spotted t taskCount spots) (packed : Each queueCount (λ q. Packed (queueOf t q))) where
   abbrev Marked : ℕ → Type 0

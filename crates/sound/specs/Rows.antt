@@ -7,14 +7,14 @@ use native.Mathlib.Nat.{pos-of-ne-zero}
 use native.Mathlib.Omega.{arith}
 use lib.Dec.{eqb, leb, ltb}
 use borrow.Author.Tests.{eq-eqb, ne-eqb, le-leb}
-use Rattle.rules.specs.Sizes.{taskCount, semaphoreCount, mutexCount, groupCount, lastPriority, mostNested, mostQuantum, mostCount, ticksRound, flagSets, testCount, plain, delayed, waitsFlags, objectDeleted}
+use Rattle.rules.specs.Sizes.{taskCount, semaphoreCount, mutexCount, groupCount, channelCount, greatestMessage, lastPriority, mostNested, mostQuantum, mostCount, ticksRound, flagSets, testCount, plain, delayed, waitsFlags, objectDeleted}
 use Rattle.rules.specs.declared.Task.{Task}
 use Rattle.rules.specs.declared.Semaphore.{Semaphore}
 use Rattle.rules.specs.declared.Mutex.{Mutex}
 use Rattle.rules.specs.declared.Group.{Group}
-use Rattle.rules.specs.Table.{Table, taskOf, semaphoreOf, mutexOf, groupOf, noTask, noMutex}
+use Rattle.rules.specs.Table.{Table, taskOf, semaphoreOf, mutexOf, groupOf, channelOf, rowOf, noTask, noMutex}
 use Rattle.rules.specs.Family.{lastState, ofState, objectsIn}
-use Rattle.rules.specs.Sound.{Each, each, implies, marksIn, asksIn, SoundTask, SoundTasks, isSoundTask, isSoundSemaphore, SoundMutex, isSoundMutex, isSoundGroup, NotDue}
+use Rattle.rules.specs.Sound.{Each, each, implies, marksIn, asksIn, SoundTask, SoundTasks, isSoundTask, isSoundSemaphore, SoundMutex, isSoundMutex, isSoundGroup, isSoundChannel, NotDue}
 use Rattle.rules.specs.Tested.{task-right, semaphore-right, mutex-right, group-right}
 use Rattle.rules.specs.Decides.{Decides, equals, at-most, fails, if-so, first, last, both, each-one}
 use Rattle.sound.specs.Tests.{same-test, otherwise, unless}
@@ -59,6 +59,10 @@ hasSoundTurns k =
 -- The mask: in range, and not 0 where it is asked for.
 abbrev pub hasSoundMask : Task → Bool
 hasSoundMask k = ltb (k .mask) (asksIn (k .state) flagSets) && implies (eqb (k .state) waitsFlags) (leb 1 (k .mask))
+
+-- The message: in range, and 0 where the number is free.
+unfoldable pub hasSoundMessage : Task → Bool
+hasSoundMessage k = leb (k .message) greatestMessage && (not (eqb (k .used) 0) || eqb (k .message) 0)
 
 -- The due mark: in range, and "no mark equals the tick counter".
 abbrev pub isMarkInRange : Task → Bool
@@ -143,6 +147,17 @@ module _ (k : Task) where
       last (λ r. r .some) (if-so equals at-most) λ some.
       record { mask = mask; some = some }
 
+  record Message : Type 0 where
+    message : k .message ≤ greatestMessage
+    free : k .used ≡ 0 → k .message ≡ 0
+
+  messages : Decides (hasSoundMessage k) Message
+  unfolding hasSoundMessage
+  messages =
+      first (λ r. r .message) at-most λ message.
+      last (λ r. r .free) (unless equals equals) λ free.
+      record { message = message; free = free }
+
   record Turns : Type 0 where
     quantum : k .quantum ≤ mostQuantum
     left : k .left ≤ mostQuantum
@@ -187,6 +202,9 @@ module _ (k : Task) where
   mask-of : SoundTask k → Mask
   mask-of r = record { mask = r .inRange .mask; some = r .asks }
 
+  message-of : SoundTask k → Message
+  message-of r = record { message = r .inRange .message; free = λ e. ap (λ (x : Task). x .message) (r .freeZero e) }
+
   turns-of : SoundTask k → Turns
   turns-of r =
       record {
@@ -197,10 +215,10 @@ module _ (k : Task) where
         some = λ e z. omega (arith, r .turn e, z);
       }
 
-  task-of : Levels → State → Asks → Turns → Mask → k .due < marksIn (k .marked) → SoundTask k
-  task-of v f a u m d =
+  task-of : Levels → State → Asks → Turns → Mask → Message → k .due < marksIn (k .marked) → SoundTask k
+  task-of v f a u m g d =
       record {
-        inRange = record { used = v .used; base = v .base; work = v .work; suspend = v .suspend; quantum = u .quantum; left = u .left; state = f .state; object = f .object; marked = f .marked; due = d; outcome = f .outcome; mask = m .mask; test = a .test; consume = a .consume };
+        inRange = record { used = v .used; base = v .base; work = v .work; suspend = v .suspend; quantum = u .quantum; left = u .left; state = f .state; object = f .object; marked = f .marked; due = d; outcome = f .outcome; mask = m .mask; test = a .test; consume = a .consume; message = g .message };
         freeZero = zero;
         plainMark = λ e. omega (arith, f .mark (λ l. omega arith));
         delayMark = λ e. omega (arith, f .mark (λ l. omega arith));
@@ -222,12 +240,16 @@ module _ (k : Task) where
           let mask : k .mask ≡ 0 = none-asked (k .mask) (k .state) flagSets apart (m .mask) in
           let test : k .test ≡ 0 = none-asked (k .test) (k .state) testCount apart (a .test) in
           let consume : k .consume ≡ 0 = none-asked (k .consume) (k .state) 2 apart (a .consume) in
-          λ i. record { used = e i; base = base i; work = work i; suspend = suspend i; quantum = quantum i; left = left i; state = state i; object = object i; marked = marked i; due = due i; outcome = outcome i; mask = mask i; test = test i; consume = consume i }
+          λ i. record { used = e i; base = base i; work = work i; suspend = suspend i; quantum = quantum i; left = left i; state = state i; object = object i; marked = marked i; due = due i; outcome = outcome i; mask = mask i; test = test i; consume = consume i; message = g .free e i }
 
   -- As the code asks, of numbers that fit their bytes.
   pub turns-row : k .quantum ≤ mostQuantum → k .left ≤ mostQuantum → leb (k .left) (k .quantum) && ((not (eqb (k .used) 0) || eqb (k .quantum) 0) && (not (eqb (k .used) 1) || not (eqb (k .quantum) 0))) ≡ hasSoundTurns k
   unfolding hasSoundTurns
   turns-row p q = rw (le-leb (k .quantum) mostQuantum p, le-leb (k .left) mostQuantum q)
+
+  pub message-row : k .message ≤ greatestMessage → not (eqb (k .used) 0) || eqb (k .message) 0 ≡ hasSoundMessage k
+  unfolding hasSoundMessage
+  message-row p = rw (le-leb (k .message) greatestMessage p)
 
   pub mask-row : k .mask < flagSets → (eqb (k .state) waitsFlags || eqb (k .mask) 0) && (not (eqb (k .state) waitsFlags) || not (eqb (k .mask) 0)) ≡ hasSoundMask k
   unfolding asksIn
@@ -276,13 +298,15 @@ module _ (t : Table) where
   rows-say : Decides (each taskCount (λ i. hasSoundFields (taskOf t i))
       && (each taskCount (λ i. hasSoundTurns (taskOf t i))
       && (each taskCount (λ i. hasSoundMask (taskOf t i))
-      && each taskCount (λ i. hasSoundMark (t .tick) (taskOf t i))))) (SoundTasks t × NotDue t)
+      && (each taskCount (λ i. hasSoundMessage (taskOf t i))
+      && each taskCount (λ i. hasSoundMark (t .tick) (taskOf t i)))))) (SoundTasks t × NotDue t)
   rows-say =
       first fields (each-one (λ i l. both (levels (taskOf t i)) (both (states (taskOf t i)) (asks (taskOf t i))))) λ f.
       first (λ r i l. turns-of (taskOf t i) (r .0 i l)) (each-one (λ i l. turns (taskOf t i))) λ u.
       first (λ r i l. mask-of (taskOf t i) (r .0 i l)) (each-one (λ i l. masks (taskOf t i))) λ k.
+      first (λ r i l. message-of (taskOf t i) (r .0 i l)) (each-one (λ i l. messages (taskOf t i))) λ g.
       last marks (each-one (λ i l. both at-most (if-so equals (fails equals)))) λ m.
-      ((λ i l. task-of (taskOf t i) (f i l .0) (f i l .1 .0) (f i l .1 .1) (u i l) (k i l) (m i l .0)), λ i l. m i l .1)
+      ((λ i l. task-of (taskOf t i) (f i l .0) (f i l .1 .0) (f i l .1 .1) (u i l) (k i l) (g i l) (m i l .0)), λ i l. m i l .1)
     where
       fields : SoundTasks t × NotDue t → Each taskCount (λ i. Levels (taskOf t i) × (State (taskOf t i) × Asks (taskOf t i)))
       fields r i l = (levels-of (taskOf t i) (r .0 i l), (state-of (taskOf t i) (r .0 i l), asks-of (taskOf t i) (r .0 i l)))
@@ -293,7 +317,8 @@ module _ (t : Table) where
   pub tasks-rows : each taskCount (λ i. hasSoundFields (taskOf t i))
       && (each taskCount (λ i. hasSoundTurns (taskOf t i))
       && (each taskCount (λ i. hasSoundMask (taskOf t i))
-      && each taskCount (λ i. hasSoundMark (t .tick) (taskOf t i))))
+      && (each taskCount (λ i. hasSoundMessage (taskOf t i))
+      && each taskCount (λ i. hasSoundMark (t .tick) (taskOf t i)))))
       ≡ areTasksSound t
   tasks-rows = same-test rows-say tasks-say
 
@@ -301,7 +326,11 @@ module _ (t : Table) where
 
 -- The rules' own: each object by itself.
 abbrev pub areObjectsSound : Table → Bool
-areObjectsSound t = each semaphoreCount (λ i. isSoundSemaphore (semaphoreOf t i)) && (each mutexCount (λ i. isSoundMutex (mutexOf t i)) && each groupCount (λ i. isSoundGroup (groupOf t i)))
+areObjectsSound t =
+    each semaphoreCount (λ i. isSoundSemaphore (semaphoreOf t i))
+    && (each mutexCount (λ i. isSoundMutex (mutexOf t i))
+    && (each groupCount (λ i. isSoundGroup (groupOf t i))
+    && each channelCount (λ i. isSoundChannel (channelOf t i) (rowOf t i))))
 
 -- A free number has zero fields; every count and every set of flags of 32 bits is in range.
 pub semaphore-row : (x : Semaphore) → x .count ≤ mostCount → leb (x .used) 1 && (not (eqb (x .used) 0) || eqb (x .count) 0) ≡ isSoundSemaphore x

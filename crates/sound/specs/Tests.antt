@@ -1,7 +1,7 @@
 -- More laws of tests that decide statements, and of tests of each number below n.
 use mathlib.Core.Path.{_≡_, refl, sym, _∙_}
 use mathlib.Core.Bool.{Bool, true, false, cond, not, _&&_, _||_, false≢true, true≢false}
-use Prim.Native.Nat.{ℕ, zero, suc, _+_, _<_}
+use Prim.Native.Nat.{ℕ, zero, suc, _+_, _≤_, _<_}
 use native.Mathlib.Decide.{ℕ-discrete}
 use native.Mathlib.Nat.{not-suc-le-zero}
 use native.Mathlib.Numerals.{add-one}
@@ -85,3 +85,13 @@ each-stop p (suc n) i h e = go (ℕ-discrete i n) (p n) refl (λ l. each-stop p 
     go d false q rest = refl
     go (yes l) true q rest = absurd (true≢false (sym q ∙ rw l at e))
     go (no l) true q rest = rest (omega arith)
+
+-- Where all from n on pass, those below n tell.
+pub each-on : (p : ℕ → Bool) (n m : ℕ) → n ≤ m → ((i : ℕ) → n ≤ i → i < m → p i ≡ true) → each n p ≡ each m p
+unfolding each
+each-on p n zero h f = let e : n ≡ 0 = omega arith in rw e
+each-on p n (suc m) h f = go (ℕ-discrete n (suc m)) (λ l. each-on p n m l (λ i a b. f i a (omega arith)))
+  where
+    go : Dec (n ≡ suc m) → (n ≤ m → each n p ≡ each m p) → each n p ≡ cond (p m) (each m p) false
+    go (yes e) rest = rw e
+    go (no d) rest = rw (f m (omega arith) (omega arith)) (rest (omega arith))

@@ -147,7 +147,7 @@ module _ {t : Table} (tasks : SoundTasks t) (s : SoundQueues t) where
   stranger : Each mutexCount (Apart t) → (i : ℕ) → i < taskCount → (o : ℕ) → (f : Family) → Among f families
       → placeOf (taskOf t i) ≡ waitersOf f o → o < f .count → (f .offers t o ≡ true → ⊥) → f .holder t o ≡ i → ⊥
   unfolding holderOf
-  stranger apart i l o = of-families _ (λ p b n e. omega arith) own (λ p b n e. omega arith)
+  stranger apart i l o = of-families _ (λ p b n e. omega arith) own (λ p b n e. omega arith) (λ p b n e. omega arith)
     where
       own : placeOf (taskOf t i) ≡ waitersOf mutexes o → o < mutexCount → (eqb (mutexOf t o .holder) 0 ≡ true → ⊥) → holderOf t o ≡ i → ⊥
       own p b n e =

@@ -1,5 +1,5 @@
 -- What is tested together is the standing rules.
-use mathlib.Core.Path.{_≡_, refl, sym, ap, _∙_}
+use mathlib.Core.Path.{_≡_, refl, sym, ap, ap₂, _∙_}
 use mathlib.Core.Bool.{Bool, true, false, cond, not, _&&_, _||_, and-true}
 use mathlib.Core.List.{List}
 use Prim.Native.Nat.{ℕ, _+_, _-_, _≤_, _<_}
@@ -7,9 +7,9 @@ use native.Mathlib.Nat.{pos-of-ne-zero}
 use native.Mathlib.Omega.{arith}
 use lib.Dec.{eqb, leb}
 use borrow.Author.Tests.{eq-eqb, ne-eqb}
-use Rattle.rules.specs.Sizes.{taskCount, semaphoreCount, mutexCount, groupCount, mostNested, mostQuantum, ticksRound}
-use Rattle.rules.specs.Table.{Table, taskOf, semaphoreOf, mutexOf, groupOf, queueCount, ableQueue, firstIn, isAble}
-use Rattle.rules.specs.Sound.{Each, each, Shaped, SoundTasks, SoundQueues, isSoundTask, isSoundSemaphore, isSoundMutex, isSoundGroup, isSoundQueues, isWorkedOut, SoundNumbers, isSoundNumbers, isSoundRuns, isSoundObjects, isSoundWithin, isSound}
+use Rattle.rules.specs.Sizes.{taskCount, semaphoreCount, mutexCount, groupCount, channelCount, mostNested, mostQuantum, ticksRound}
+use Rattle.rules.specs.Table.{Table, taskOf, semaphoreOf, mutexOf, groupOf, channelOf, rowOf, queueCount, ableQueue, firstIn, isAble}
+use Rattle.rules.specs.Sound.{Each, each, Shaped, SoundTasks, SoundQueues, isSoundTask, isSoundSemaphore, isSoundMutex, isSoundGroup, isSoundChannel, isSoundQueues, isWorkedOut, SoundNumbers, isSoundNumbers, isSoundRuns, isSoundObjects, isSoundWithin, isSound}
 use Rattle.rules.specs.Tested.{queued, numbers-right}
 use Rattle.rules.specs.Decides.{Decides, equals, at-most, itself, fails, first, last, both, each-one}
 use Rattle.sound.specs.Tests.{same-test}
@@ -114,16 +114,16 @@ module _ (t : Table) where
 -- ---- all of it
 
 -- The tests in the order of the code and in that of the rules.
-reordered : (tasks notDue semaphores mutexes groups queues waits holders works numbers runs : Bool)
-    → (tasks && notDue) && ((semaphores && (mutexes && groups)) && ((queues && (waits && holders)) && (works && (numbers && runs))))
-    ≡ (queues && (works && (tasks && ((semaphores && (mutexes && (groups && (waits && holders)))) && numbers)))) && (notDue && runs)
-reordered tasks notDue semaphores mutexes groups queues waits holders works numbers runs =
+reordered : (tasks notDue semaphores mutexes groups channels queues waits holders works numbers runs : Bool)
+    → (tasks && notDue) && ((semaphores && (mutexes && (groups && channels))) && ((queues && (waits && holders)) && (works && (numbers && runs))))
+    ≡ (queues && (works && (tasks && ((semaphores && (mutexes && (groups && (channels && (waits && holders))))) && numbers)))) && (notDue && runs)
+reordered tasks notDue semaphores mutexes groups channels queues waits holders works numbers runs =
     same-test
-    (both (both (is tasks) (is notDue)) (both (both (is semaphores) (both (is mutexes) (is groups))) (both (both (is queues) (both (is waits) (is holders))) (both (is works) (both (is numbers) (is runs))))))
+    (both (both (is tasks) (is notDue)) (both (both (is semaphores) (both (is mutexes) (both (is groups) (is channels)))) (both (both (is queues) (both (is waits) (is holders))) (both (is works) (both (is numbers) (is runs))))))
     (last
-    (λ ((ts, nd), ((se, (mu, gr)), ((qs, (wa, ho)), (wo, (nu, ru))))). ((qs, (wo, (ts, ((se, (mu, (gr, (wa, ho)))), nu)))), (nd, ru)))
-    (both (both (is queues) (both (is works) (both (is tasks) (both (both (is semaphores) (both (is mutexes) (both (is groups) (both (is waits) (is holders))))) (is numbers))))) (both (is notDue) (is runs)))
-    (λ ((qs, (wo, (ts, ((se, (mu, (gr, (wa, ho)))), nu)))), (nd, ru)). ((ts, nd), ((se, (mu, gr)), ((qs, (wa, ho)), (wo, (nu, ru)))))))
+    (λ ((ts, nd), ((se, (mu, (gr, ch))), ((qs, (wa, ho)), (wo, (nu, ru))))). ((qs, (wo, (ts, ((se, (mu, (gr, (ch, (wa, ho))))), nu)))), (nd, ru)))
+    (both (both (is queues) (both (is works) (both (is tasks) (both (both (is semaphores) (both (is mutexes) (both (is groups) (both (is channels) (both (is waits) (is holders)))))) (is numbers))))) (both (is notDue) (is runs)))
+    (λ ((qs, (wo, (ts, ((se, (mu, (gr, (ch, (wa, ho))))), nu)))), (nd, ru)). ((ts, nd), ((se, (mu, (gr, ch))), ((qs, (wa, ho)), (wo, (nu, ru)))))))
   where
     is : (b : Bool) → Decides b (b ≡ true)
     is b = itself
@@ -137,6 +137,7 @@ sound-parts t =
     (each semaphoreCount (λ i. isSoundSemaphore (semaphoreOf t i)))
     (each mutexCount (λ i. isSoundMutex (mutexOf t i)))
     (each groupCount (λ i. isSoundGroup (groupOf t i)))
+    (each channelCount (λ i. isSoundChannel (channelOf t i) (rowOf t i)))
     (isSoundQueues t)
     (areWaitsSound t)
     (areHoldersUsed t)
@@ -144,12 +145,10 @@ sound-parts t =
     (isSoundNumbers t)
     (isSoundRuns t)
 
+-- What the tests of the tasks and of the objects told.
 module _ (t : Table) where
-  abbrev rest : Bool
-  rest = areObjectsSound t && (areQueuesSound t && (isWorkedOut t && (isSoundNumbers t && isSoundRuns t)))
+  abbrev pub others : Bool
+  others = areQueuesSound t && (isWorkedOut t && (isSoundNumbers t && isSoundRuns t))
 
-  pub sound-never : areTasksSound t ≡ false → false ≡ isSound t
-  sound-never e = ap (λ (b : Bool). b && rest) (sym e) ∙ sound-parts t
-
-  pub sound-rest : areTasksSound t ≡ true → areObjectsSound t && (areQueuesSound t && (isWorkedOut t && (isSoundNumbers t && isSoundRuns t))) ≡ isSound t
-  sound-rest e = ap (λ (b : Bool). b && rest) (sym e) ∙ sound-parts t
+  pub sound-told : {tasks objects : Bool} → areTasksSound t ≡ tasks → areObjectsSound t ≡ objects → tasks && (objects && others) ≡ isSound t
+  sound-told e f = ap₂ (λ (a b : Bool). a && (b && others)) (sym e) (sym f) ∙ sound-parts t

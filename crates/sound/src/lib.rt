@@ -4,6 +4,7 @@ ghost use Rattle.rules.specs.Sound.{isSoundNumbers, isSoundRuns, isSound};
 ghost use Rattle.table.specs.Image.{Image, view};
 ghost use Rattle.sound.specs.Whole.{mayRun};
 
+mod channels;
 mod groups;
 mod mutexes;
 mod objects;
@@ -50,7 +51,8 @@ fn is_run_right(s: &[u8]) -> bool
     may_run(s, v)
 }
 
-// Whether the table that the image shows is sound. The queues are looked at where the tasks are right, so that each has a place.
+// Whether the table that the image shows is sound. The queues are looked at where the tasks are right, so that each has a place. Objects that are
+// not right end the test too: without that end the compiler keeps the fields of all objects on the stack until the queues are walked.
 pub fn is_sound(s: &[u8]) -> bool
     requires { ⌜ Image (now s) ⌝ }
     ensures { λ r. ⌜ r ≡ isSound (view (now (s .entry))) ⌝ }
@@ -58,7 +60,9 @@ pub fn is_sound(s: &[u8]) -> bool
     if !tasks::are_tasks_right(s) {
         return false;
     }
-    objects::are_objects_right(s)
-        & (queues::are_queues_right(s)
-            & (works::are_works_right(s) & (are_numbers_right(s) & is_run_right(s))))
+    if !objects::are_objects_right(s) {
+        return false;
+    }
+    queues::are_queues_right(s)
+        & (works::are_works_right(s) & (are_numbers_right(s) & is_run_right(s)))
 }

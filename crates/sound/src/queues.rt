@@ -10,7 +10,7 @@ ghost use Rattle.rules.specs.Table.{taskOf, queueOf, queueCount, ableQueue};
 ghost use Rattle.rules.specs.Family.{placeOf};
 ghost use Rattle.rules.specs.Sound.{each, SoundTasks};
 ghost use Rattle.table.specs.Image.{Image, view};
-ghost use Rattle.sound.specs.Packed.{ofFive, frees, slotCount};
+ghost use Rattle.sound.specs.Packed.{ofSeven, frees, slotCount};
 ghost use Rattle.sound.specs.Queues.{Spotted, isMet};
 ghost use Rattle.sound.specs.Waits.{isHolderSound};
 ghost use Rattle.sound.specs.Whole.{areQueuesSound};
@@ -21,8 +21,8 @@ use table::mutexes;
 
 const ALL_SLOTS: usize = layout::QUEUES * layout::SLOTS;
 
-// The queues of the objects, by five.
-const FIVES: usize = (layout::QUEUES - layout::SEMAPHORE_QUEUE) / 5;
+// The queues of the objects, by seven.
+const SEVENS: usize = (layout::QUEUES - layout::SEMAPHORE_QUEUE) / 7;
 
 fn pick(b: bool, x: u8, y: u8) -> u8
     ensures { λ r. ⌜ r ≡ cond b x y ⌝ }
@@ -33,7 +33,7 @@ fn pick(b: bool, x: u8, y: u8) -> u8
     y
 }
 
-// The queue where task i stands, 41 for none: no branch, so that the compiler takes many tasks at once.
+// The queue where task i stands, 57 for none: no branch, so that the compiler takes many tasks at once.
 fn spot_of(s: &[u8], i: usize) -> u8
     requires { ⌜ (i < taskCount) × Image (now s) × SoundTasks (view (now s)) ⌝ }
     ensures { λ r. ⌜ r ≡ placeOf (taskOf (view (now (s .entry))) i) ⌝ }
@@ -43,7 +43,11 @@ fn spot_of(s: &[u8], i: usize) -> u8
     let waits = pick(
         state == 2,
         1 + object,
-        pick(state == 3, 17 + object, pick(state == 4, 33 + object, 41)),
+        pick(
+            state == 3,
+            17 + object,
+            pick(state == 4, 33 + object, pick(state == 5, 41 + object, 57)),
+        ),
     );
     pick(moves::is_able(s, i), 0, waits)
 }
@@ -96,7 +100,7 @@ fn are_all_met(spots: &[u8]) -> bool
     let mut all = true;
     let mut i = 0;
     while i < layout::TASKS {
-        all = (41 <= spots[i]) & all;
+        all = (57 <= spots[i]) & all;
         i += 1;
     }
     all
@@ -127,25 +131,27 @@ fn free_in_able(s: &[u8]) -> u8
     n
 }
 
-// How many of the slots j of five queues are free.
-fn free_at_five(s: &[u8], q: usize, j: usize) -> u8
-    requires { ⌜ (q + 4 < queueCount) × (j < taskCount) × Image (now s) ⌝ }
-    ensures { λ r. ⌜ (r ≡ ofFive (λ p. one 0 (getD (queueOf (view (now (s .entry))) p) j 0)) q) × (r ≤ 5) ⌝ }
+// How many of the slots j of seven queues are free.
+fn free_at_seven(s: &[u8], q: usize, j: usize) -> u8
+    requires { ⌜ (q + 6 < queueCount) × (j < taskCount) × Image (now s) ⌝ }
+    ensures { λ r. ⌜ (r ≡ ofSeven (λ p. one 0 (getD (queueOf (view (now (s .entry))) p) j 0)) q) × (r ≤ 7) ⌝ }
 {
     free_at(s, q, j)
         + (free_at(s, q + 1, j)
-            + (free_at(s, q + 2, j) + (free_at(s, q + 3, j) + free_at(s, q + 4, j))))
+            + (free_at(s, q + 2, j)
+                + (free_at(s, q + 3, j)
+                    + (free_at(s, q + 4, j) + (free_at(s, q + 5, j) + free_at(s, q + 6, j))))))
 }
 
-// The free slots of five queues: no branch, and few enough for a byte, so that the compiler counts many at once.
-fn free_in_five(s: &[u8], q: usize) -> u8
-    requires { ⌜ (q + 4 < queueCount) × Image (now s) ⌝ }
-    ensures { λ r. ⌜ r ≡ ofFive (λ p. count 0 (queueOf (view (now (s .entry))) p)) q ⌝ }
+// The free slots of seven queues: no branch, and few enough for a byte, so that the compiler counts many at once.
+fn free_in_seven(s: &[u8], q: usize) -> u8
+    requires { ⌜ (q + 6 < queueCount) × Image (now s) ⌝ }
+    ensures { λ r. ⌜ r ≡ ofSeven (λ p. count 0 (queueOf (view (now (s .entry))) p)) q ⌝ }
 {
     let mut n: u8 = 0;
     let mut j = 0;
     while j < layout::SLOTS {
-        n += free_at_five(s, q, j);
+        n += free_at_seven(s, q, j);
         j += 1;
     }
     n
@@ -158,8 +164,8 @@ fn are_others_free(s: &[u8], n: usize) -> bool
 {
     let mut m = n + free_in_able(s) as usize;
     let mut i = 0;
-    while i < FIVES {
-        m += free_in_five(s, layout::SEMAPHORE_QUEUE + 5 * i) as usize;
+    while i < SEVENS {
+        m += free_in_seven(s, layout::SEMAPHORE_QUEUE + 7 * i) as usize;
         if ALL_SLOTS < m {
             return false;
         }
@@ -173,7 +179,7 @@ pub fn are_queues_right(s: &[u8]) -> bool
     requires { ⌜ Image (now s) × SoundTasks (view (now s)) ⌝ }
     ensures { λ r. ⌜ r ≡ areQueuesSound (view (now (s .entry))) ⌝ }
 {
-    let mut spots = [41u8; 32];
+    let mut spots = [57u8; 32];
     fill_spots(s, &mut spots);
     let held = are_holders_right(s, &spots);
     let n = walk::walk_queues(s, &mut spots);

@@ -6,7 +6,7 @@ ghost use Rattle.rules.specs.Table.{taskOf};
 ghost use Rattle.rules.specs.Family.{objectsIn};
 ghost use Rattle.rules.specs.Sound.{each, asksIn};
 ghost use Rattle.table.specs.Image.{Image, view};
-ghost use Rattle.sound.specs.Rows.{hasSoundLevels, hasSoundState, hasSoundAsks, hasSoundFields, hasSoundTurns, hasSoundMark, hasSoundMask, areTasksSound};
+ghost use Rattle.sound.specs.Rows.{hasSoundLevels, hasSoundState, hasSoundAsks, hasSoundFields, hasSoundTurns, hasSoundMark, hasSoundMask, hasSoundMessage, areTasksSound};
 use table::layout;
 use table::numbers;
 
@@ -22,6 +22,9 @@ fn objects_in(state: u8) -> u8
     }
     if state == 4 {
         return 8;
+    }
+    if state == 5 {
+        return 16;
     }
     1
 }
@@ -61,7 +64,7 @@ fn has_right_state(s: &[u8], i: usize) -> bool
     let outcome = table::tasks::get_outcome(s, i);
     let free = (used != 0) | ((state == 0) & (outcome == 0));
     let timed = (1 < state) | (marked == state);
-    (state <= 4)
+    (state <= 5)
         & ((object < objects_in(state)) & ((marked <= 1) & ((outcome <= 3) & (timed & free))))
 }
 
@@ -164,10 +167,35 @@ fn are_masks_right(s: &[u8]) -> bool
     all
 }
 
+// Every number of 32 bits is a message.
+fn has_right_message(s: &[u8], i: usize) -> bool
+    requires { ⌜ (i < taskCount) × Image (now s) ⌝ }
+    ensures { λ r. ⌜ r ≡ hasSoundMessage (taskOf (view (now (s .entry))) i) ⌝ }
+{
+    let used = table::tasks::get_used(s, i);
+    let message = table::tasks::get_message(s, i);
+    (used != 0) | (message == 0)
+}
+
+// The messages. In the loop of the masks, which go by the state, they would take twice as many instructions.
+fn are_messages_right(s: &[u8]) -> bool
+    requires { ⌜ Image (now s) ⌝ }
+    ensures { λ r. ⌜ r ≡ each taskCount (λ i. hasSoundMessage (taskOf (view (now (s .entry))) i)) ⌝ }
+{
+    let mut all = true;
+    let mut i = 0;
+    while i < layout::TASKS {
+        all = has_right_message(s, i) & all;
+        i += 1;
+    }
+    all
+}
+
 // Each task by itself, and no mark is due.
 pub fn are_tasks_right(s: &[u8]) -> bool
     requires { ⌜ Image (now s) ⌝ }
     ensures { λ r. ⌜ r ≡ areTasksSound (view (now (s .entry))) ⌝ }
 {
-    are_fields_right(s) & (are_turns_right(s) & (are_masks_right(s) & are_marks_right(s)))
+    are_fields_right(s)
+        & (are_turns_right(s) & (are_masks_right(s) & (are_messages_right(s) & are_marks_right(s))))
 }

@@ -9,6 +9,7 @@ ghost use Rattle.table.specs.Image.{Image, view};
 ghost use Rattle.sound.specs.Lines.{mayStand};
 ghost use Rattle.sound.specs.Waits.{isAwaited};
 ghost use Rattle.sound.specs.Walks.{QueueWalked, QueuePassed, NextFront, AllWalked};
+use table::channels;
 use table::groups;
 use table::layout;
 use table::moves;
@@ -69,7 +70,11 @@ fn is_awaited(s: &[u8], q: usize) -> bool
         let o = q - layout::MUTEX_QUEUE;
         return (mutexes::get_used(s, o) == 1) & (mutexes::get_holder(s, o) != 0);
     }
-    groups::get_used(s, q - layout::GROUP_QUEUE) == 1
+    if q < layout::CHANNEL_QUEUE {
+        return groups::get_used(s, q - layout::GROUP_QUEUE) == 1;
+    }
+    let o = q - layout::CHANNEL_QUEUE;
+    (channels::get_used(s, o) == 1) & (channels::get_held(s, o) == 0)
 }
 
 // The same as `walk_queue`, and 255 also where the queue's object may have no waiter.

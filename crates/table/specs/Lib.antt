@@ -1,6 +1,7 @@
 pub mod kinds
 pub mod Image
 pub mod Queues
+pub mod Messages
 pub mod Numbers
 pub mod Shape
 pub mod Settled

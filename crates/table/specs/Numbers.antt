@@ -11,12 +11,14 @@ use Rattle.columns.specs.Laws.{entry-read}
 use Rattle.columns.specs.Rows.{Kind, records, single}
 use Rattle.columns.specs.Runs.{runOf, row-run}
 use Rattle.columns.specs.Views.{alike, putRow, RowFits, row-kept, row-entry, put-same, even-at}
+use Rattle.rules.specs.Sizes.{channelCount}
 use Rattle.rules.specs.Table.{queueCount, withTick, withDefaultQuantum, withDepth, withRunning}
 use Rattle.table.specs.kinds.Task as task
 use Rattle.table.specs.kinds.Semaphore as semaphore
 use Rattle.table.specs.kinds.Mutex as mutex
 use Rattle.table.specs.kinds.Group as group
-use Rattle.table.specs.Image.{queueFirst, tickColumn, defaultColumn, depthColumn, runningColumn, layout, Image, view}
+use Rattle.table.specs.kinds.Channel as channel
+use Rattle.table.specs.Image.{queueFirst, tickColumn, defaultColumn, depthColumn, runningColumn, messageFirst, layout, Image, view}
 
 -- ---- what is read
 
@@ -55,7 +57,7 @@ running-even : alike (single runningColumn) layout ≡ true
 unfolding every single
 running-even = refl
 
-module _ (k v : ℕ) (l : List ℕ) (h : Image l) (even : alike (single k) layout ≡ true) (b : queueFirst + queueCount ≤ k) (f : RowFits (single k) layout 0 (v ∷ [])) where
+module _ (k v : ℕ) (l : List ℕ) (h : Image l) (even : alike (single k) layout ≡ true) (b : (queueFirst + queueCount ≤ k) × (k < messageFirst)) (f : RowFits (single k) layout 0 (v ∷ [])) where
   abbrev put : List (List ℕ)
   put = columns layout (putRow (single k) layout 0 0 (v ∷ []) l)
 
@@ -66,6 +68,10 @@ module _ (k v : ℕ) (l : List ℕ) (h : Image l) (even : alike (single k) layou
   queues-kept : runOf queueFirst queueCount put ≡ runOf queueFirst queueCount (columns layout l)
   unfolding single
   queues-kept = row-run (single k) layout even queueFirst queueCount (λ n p. inl (omega arith)) (v ∷ []) 0 0 l (omega arith) (omega arith) f
+
+  messages-kept : runOf messageFirst channelCount put ≡ runOf messageFirst channelCount (columns layout l)
+  unfolding single
+  messages-kept = row-run (single k) layout even messageFirst channelCount (λ n p. inr (omega arith)) (v ∷ []) 0 0 l (omega arith) (omega arith) f
 
   number-kept : (m : ℕ) → (m < k) ⊎ (k + 1 ≤ m) → entry put m 0 ≡ entry (columns layout l) m 0
   unfolding single
@@ -84,11 +90,13 @@ module _ (l m : List ℕ) (v : ℕ) (h : Image l) where
         semaphores = others-kept tickColumn v l h tick-even (omega arith) f semaphore.kind (omega arith) x;
         mutexes = others-kept tickColumn v l h tick-even (omega arith) f mutex.kind (omega arith) x;
         groups = others-kept tickColumn v l h tick-even (omega arith) f group.kind (omega arith) x;
+        channels = others-kept tickColumn v l h tick-even (omega arith) f channel.kind (omega arith) x;
         queues = queues-kept tickColumn v l h tick-even (omega arith) f x;
         tick = number-put tickColumn v l h tick-even (omega arith) f x;
         defaultQuantum = number-kept tickColumn v l h tick-even (omega arith) f defaultColumn (inr (omega arith)) x;
         depth = number-kept tickColumn v l h tick-even (omega arith) f depthColumn (inr (omega arith)) x;
         running = number-kept tickColumn v l h tick-even (omega arith) f runningColumn (inr (omega arith)) x;
+        messages = messages-kept tickColumn v l h tick-even (omega arith) f x;
       }
 
   pub default-put : RowFits (single defaultColumn) layout 0 (v ∷ []) → m ≡ putRow (single defaultColumn) layout 0 0 (v ∷ []) l → view m ≡ withDefaultQuantum v (view l)
@@ -99,11 +107,13 @@ module _ (l m : List ℕ) (v : ℕ) (h : Image l) where
         semaphores = others-kept defaultColumn v l h default-even (omega arith) f semaphore.kind (omega arith) x;
         mutexes = others-kept defaultColumn v l h default-even (omega arith) f mutex.kind (omega arith) x;
         groups = others-kept defaultColumn v l h default-even (omega arith) f group.kind (omega arith) x;
+        channels = others-kept defaultColumn v l h default-even (omega arith) f channel.kind (omega arith) x;
         queues = queues-kept defaultColumn v l h default-even (omega arith) f x;
         tick = number-kept defaultColumn v l h default-even (omega arith) f tickColumn (inl (omega arith)) x;
         defaultQuantum = number-put defaultColumn v l h default-even (omega arith) f x;
         depth = number-kept defaultColumn v l h default-even (omega arith) f depthColumn (inr (omega arith)) x;
         running = number-kept defaultColumn v l h default-even (omega arith) f runningColumn (inr (omega arith)) x;
+        messages = messages-kept defaultColumn v l h default-even (omega arith) f x;
       }
 
   pub depth-put : RowFits (single depthColumn) layout 0 (v ∷ []) → m ≡ putRow (single depthColumn) layout 0 0 (v ∷ []) l → view m ≡ withDepth v (view l)
@@ -114,11 +124,13 @@ module _ (l m : List ℕ) (v : ℕ) (h : Image l) where
         semaphores = others-kept depthColumn v l h depth-even (omega arith) f semaphore.kind (omega arith) x;
         mutexes = others-kept depthColumn v l h depth-even (omega arith) f mutex.kind (omega arith) x;
         groups = others-kept depthColumn v l h depth-even (omega arith) f group.kind (omega arith) x;
+        channels = others-kept depthColumn v l h depth-even (omega arith) f channel.kind (omega arith) x;
         queues = queues-kept depthColumn v l h depth-even (omega arith) f x;
         tick = number-kept depthColumn v l h depth-even (omega arith) f tickColumn (inl (omega arith)) x;
         defaultQuantum = number-kept depthColumn v l h depth-even (omega arith) f defaultColumn (inl (omega arith)) x;
         depth = number-put depthColumn v l h depth-even (omega arith) f x;
         running = number-kept depthColumn v l h depth-even (omega arith) f runningColumn (inr (omega arith)) x;
+        messages = messages-kept depthColumn v l h depth-even (omega arith) f x;
       }
 
   pub running-put : RowFits (single runningColumn) layout 0 (v ∷ []) → m ≡ putRow (single runningColumn) layout 0 0 (v ∷ []) l → view m ≡ withRunning v (view l)
@@ -129,9 +141,11 @@ module _ (l m : List ℕ) (v : ℕ) (h : Image l) where
         semaphores = others-kept runningColumn v l h running-even (omega arith) f semaphore.kind (omega arith) x;
         mutexes = others-kept runningColumn v l h running-even (omega arith) f mutex.kind (omega arith) x;
         groups = others-kept runningColumn v l h running-even (omega arith) f group.kind (omega arith) x;
+        channels = others-kept runningColumn v l h running-even (omega arith) f channel.kind (omega arith) x;
         queues = queues-kept runningColumn v l h running-even (omega arith) f x;
         tick = number-kept runningColumn v l h running-even (omega arith) f tickColumn (inl (omega arith)) x;
         defaultQuantum = number-kept runningColumn v l h running-even (omega arith) f defaultColumn (inl (omega arith)) x;
         depth = number-kept runningColumn v l h running-even (omega arith) f depthColumn (inl (omega arith)) x;
         running = number-put runningColumn v l h running-even (omega arith) f x;
+        messages = messages-kept runningColumn v l h running-even (omega arith) f x;
       }

@@ -11,14 +11,16 @@ use borrow.Rule.Slice.PartMut.{putMid}
 use Rattle.columns.specs.Columns.{splice, offset, columns}
 use Rattle.columns.specs.Every.{every}
 use Rattle.columns.specs.Rows.{tabulate-at}
-use Rattle.columns.specs.Runs.{allWide, allLong, runOf, run-at, put-lent, run-put, run-set, run-kept, run-entry}
+use Rattle.columns.specs.Runs.{allWide, allLong, runOf, run-at, put-lent, run-put, run-set, run-kept, run-entry, run-apart}
 use Rattle.columns.specs.Views.{columns-long}
+use Rattle.rules.specs.Sizes.{channelCount}
 use Rattle.rules.specs.Table.{queueOf, queueCount, withQueue}
 use Rattle.table.specs.kinds.Task as task
 use Rattle.table.specs.kinds.Semaphore as semaphore
 use Rattle.table.specs.kinds.Mutex as mutex
 use Rattle.table.specs.kinds.Group as group
-use Rattle.table.specs.Image.{slotCount, queueFirst, tickColumn, defaultColumn, depthColumn, runningColumn, layout, Image, view}
+use Rattle.table.specs.kinds.Channel as channel
+use Rattle.table.specs.Image.{slotCount, queueFirst, tickColumn, defaultColumn, depthColumn, runningColumn, messageFirst, layout, Image, view}
 
 -- ---- the rows are bytes, and alike
 
@@ -68,9 +70,11 @@ module _ (l : List ℕ) (q a e : ℕ) (h : Image l) (p : q < queueCount) (s : a 
         semaphores = run-kept t (queueFirst + q) ys semaphore.kind (inr (omega arith)) x;
         mutexes = run-kept t (queueFirst + q) ys mutex.kind (inr (omega arith)) x;
         groups = run-kept t (queueFirst + q) ys group.kind (inr (omega arith)) x;
+        channels = run-kept t (queueFirst + q) ys channel.kind (inr (omega arith)) x;
         queues = run-set t (queueFirst + q) ys queueFirst queueCount q p refl (omega (arith, columns-long layout l)) x;
         tick = run-entry t (queueFirst + q) ys tickColumn 0 (λ d. omega arith) x;
         defaultQuantum = run-entry t (queueFirst + q) ys defaultColumn 0 (λ d. omega arith) x;
         depth = run-entry t (queueFirst + q) ys depthColumn 0 (λ d. omega arith) x;
         running = run-entry t (queueFirst + q) ys runningColumn 0 (λ d. omega arith) x;
+        messages = run-apart t (queueFirst + q) ys messageFirst channelCount (λ n o d. omega arith) x;
       })

@@ -10,15 +10,17 @@ use lib.Seq.{ext-getD, getD-set-same, getD-set-other}
 use Rattle.columns.specs.Columns.{word, numbers, offset, columns, entry}
 use Rattle.columns.specs.Rows.{tabulate, tabulate-long, records, records-long}
 use Rattle.columns.specs.Runs.{runOf}
-use Rattle.rules.specs.Sizes.{freshQuantum}
+use Rattle.rules.specs.Sizes.{channelCount, freshQuantum}
 use Rattle.rules.specs.Table.{queueCount, freshTable, withDefaultQuantum}
 use Rattle.rules.specs.Sound.{Each, Shaped}
 use Rattle.table.specs.kinds.Task as task
 use Rattle.table.specs.kinds.Semaphore as semaphore
 use Rattle.table.specs.kinds.Mutex as mutex
 use Rattle.table.specs.kinds.Group as group
+use Rattle.table.specs.kinds.Channel as channel
 use Rattle.table.specs.Image.{defaultColumn, layout, imageSize, Image, view}
 use Rattle.table.specs.Queues.{view-slots}
+use Rattle.table.specs.Messages.{view-row-long}
 
 pub view-shaped : (l : List ℕ) → Image l → Shaped (view l)
 unfolding view runOf
@@ -28,13 +30,16 @@ view-shaped l h =
       semaphores = records-long semaphore.kind (columns layout l);
       mutexes = records-long mutex.kind (columns layout l);
       groups = records-long group.kind (columns layout l);
+      channels = records-long channel.kind (columns layout l);
       queues = tabulate-long queueCount _;
       slots = view-slots l h;
+      messages = tabulate-long channelCount _;
+      rows = view-row-long l;
     }
 
 -- Zeros show the fresh table, but for its default quantum.
 pub zeros-view : view (replicate imageSize 0) ≡ withDefaultQuantum 0 freshTable
-unfolding view freshTable records tabulate columns numbers word entry runOf task.made semaphore.made mutex.made group.made
+unfolding view freshTable records tabulate columns numbers word entry runOf task.made semaphore.made mutex.made group.made channel.made
 zeros-view = refl
 
 -- The fresh image: zeros, but for the lower byte of the default quantum.
@@ -42,7 +47,7 @@ unfoldable pub freshBytes : List ℕ
 freshBytes = set (replicate imageSize 0) (offset layout defaultColumn) freshQuantum
 
 pub fresh-view : view freshBytes ≡ freshTable
-unfolding freshBytes view freshTable records tabulate columns numbers word entry runOf task.made semaphore.made mutex.made group.made
+unfolding freshBytes view freshTable records tabulate columns numbers word entry runOf task.made semaphore.made mutex.made group.made channel.made
 fresh-view = refl
 
 -- Its bytes one by one.

@@ -3,17 +3,18 @@
 use mathlib.Core.Path.{_≡_, refl, sym, ap, subst, _∙_}
 use mathlib.Core.List.{List, [], _∷_, _++_}
 use Prim.Native.Nat.{ℕ, _+_, _≤_, _<_}
+use native.Mathlib.Decide.{decLt}
 use native.Mathlib.Omega.{arith}
-use lib.ListN.{length, getD, drop, length-append}
-use Rattle.columns.specs.Columns.{columns, entry, Fits as Numbers}
+use lib.ListN.{length, getD, drop, length-append, List·getD-eq-default}
+use Rattle.columns.specs.Columns.{columns, entry, Below, Fits as Numbers}
 use Rattle.columns.specs.Image.{columns-image, image-long, image-bytes, entry-small}
 use Rattle.columns.specs.Rows.{Stands, here, past, last, columnsOf, columns-of-long, records-back}
 use Rattle.columns.specs.Runs.{same-run, run-back}
 use Rattle.columns.specs.Views.{same-none, same-next, same-one, same-all}
 use Rattle.columns.specs.Words.{bytes-drop, bytes-take}
 use Rattle.columns.specs.Whole.{records-fit, fits-none, fits-kind, fits-run, fits-one, fits-all}
-use Rattle.rules.specs.Sizes.{taskCount, semaphoreCount, mutexCount, groupCount}
-use Rattle.rules.specs.Table.{Table, queueCount, taskOf, semaphoreOf, mutexOf, groupOf, queueOf}
+use Rattle.rules.specs.Sizes.{taskCount, semaphoreCount, mutexCount, groupCount, channelCount, mostMessages, greatestMessage}
+use Rattle.rules.specs.Table.{Table, queueCount, taskOf, semaphoreOf, mutexOf, groupOf, channelOf, queueOf, rowOf}
 use Rattle.rules.specs.Sound.{Each, Shaped, Sound}
 use Rattle.rules.specs.KindLaws.{all-at}
 use Rattle.rules.specs.Tape.{Bytes}
@@ -21,12 +22,15 @@ use Rattle.table.specs.kinds.Task as task
 use Rattle.table.specs.kinds.Semaphore as semaphore
 use Rattle.table.specs.kinds.Mutex as mutex
 use Rattle.table.specs.kinds.Group as group
+use Rattle.table.specs.kinds.Channel as channel
 use Rattle.table.specs.records.Task as task-record
 use Rattle.table.specs.records.Semaphore as semaphore-record
 use Rattle.table.specs.records.Mutex as mutex-record
 use Rattle.table.specs.records.Group as group-record
-use Rattle.table.specs.Image.{slotCount, queueFirst, tickColumn, defaultColumn, depthColumn, runningColumn, layout, Image, view, numbersOf, imageOf}
+use Rattle.table.specs.records.Channel as channel-record
+use Rattle.table.specs.Image.{slotCount, queueFirst, tickColumn, defaultColumn, depthColumn, runningColumn, messageFirst, layout, Image, view, numbersOf, imageOf}
 use Rattle.table.specs.Queues.{queue-wide, queue-even, queueAt, view-queue}
+use Rattle.table.specs.Messages.{message-wide, message-even, view-row-small}
 use Rattle.table.specs.Shape.{view-shaped}
 
 -- ---- every byte shows
@@ -35,16 +39,18 @@ pub lossless : (l m : List ℕ) → Image l → Image m → Bytes l → Bytes m 
 unfolding view
 lossless l m h k b d e =
     same-all layout l m
+    (same-run layout l m messageFirst channelCount (ap (λ (t : Table). t .messages) e)
     (same-one layout l m runningColumn (ap (λ (t : Table). t .running) e) refl
     (same-one layout l m depthColumn (ap (λ (t : Table). t .depth) e) refl
     (same-one layout l m defaultColumn (ap (λ (t : Table). t .defaultQuantum) e) refl
     (same-one layout l m tickColumn (ap (λ (t : Table). t .tick) e) refl
     (same-run layout l m queueFirst queueCount (ap (λ (t : Table). t .queues) e)
+    (same-next layout l m channel.kind channel-record.even (ap (λ (t : Table). t .channels) e)
     (same-next layout l m group.kind group-record.even (ap (λ (t : Table). t .groups) e)
     (same-next layout l m mutex.kind mutex-record.even (ap (λ (t : Table). t .mutexes) e)
     (same-next layout l m semaphore.kind semaphore-record.even (ap (λ (t : Table). t .semaphores) e)
     (same-next layout l m task.kind task-record.even (ap (λ (t : Table). t .tasks) e)
-    (same-none layout l m))))))))))
+    (same-none layout l m))))))))))))
     b d h k
 
 -- ---- the tables whose fields fit their bytes
@@ -55,15 +61,17 @@ pub record Fits (t : Table) : Type 0 where
   pub semaphores : Each semaphoreCount (λ s. semaphore-record.Small (semaphoreOf t s))
   pub mutexes : Each mutexCount (λ m. mutex-record.Small (mutexOf t m))
   pub groups : Each groupCount (λ g. group-record.Small (groupOf t g))
+  pub channels : Each channelCount (λ c. channel-record.Small (channelOf t c))
   pub queues : Each queueCount (λ q. Bytes (queueOf t q))
   pub tick : t .tick < 4294967296
   pub defaultQuantum : t .defaultQuantum < 65536
   pub depth : t .depth < 256
   pub running : t .running < 256
+  pub messages : Each channelCount (λ c. Below 4 (rowOf t c))
 
 -- The table that an image of bytes shows fits.
 pub view-fits : (l : List ℕ) → Image l → Bytes l → Fits (view l)
-unfolding view task.made semaphore.made mutex.made group.made
+unfolding view task.made semaphore.made mutex.made group.made channel.made
 view-fits l h b =
     record {
       shaped = view-shaped l h;
@@ -71,14 +79,23 @@ view-fits l h b =
       semaphores = λ i p. semaphore-record.small _ (records-fit semaphore.kind layout l b i p);
       mutexes = λ i p. mutex-record.small _ (records-fit mutex.kind layout l b i p);
       groups = λ i p. group-record.small _ (records-fit group.kind layout l b i p);
+      channels = λ i p. channel-record.small _ (records-fit channel.kind layout l b i p);
       queues = λ q p. subst Bytes (sym (view-queue l h q p)) (bytes-take slotCount (drop (queueAt q) l) (bytes-drop (queueAt q) l b));
       tick = entry-small layout l b tickColumn 0;
       defaultQuantum = entry-small layout l b defaultColumn 0;
       depth = entry-small layout l b depthColumn 0;
       running = entry-small layout l b runningColumn 0;
+      messages = λ c p. view-row-small l c p b;
     }
 
 -- ---- a sound table fits
+
+row-fits : (row : List ℕ) → length row ≡ mostMessages → Each mostMessages (λ j. getD row j 0 ≤ greatestMessage) → Below 4 row
+row-fits row n f j = go (decLt j mostMessages)
+  where
+    go : Dec (j < mostMessages) → getD row j 0 < 4294967296
+    go (yes p) = omega (arith, f j p)
+    go (no p) = rw (List·getD-eq-default row 0 {n = j} (omega arith)) (omega arith)
 
 pub sound-fits : {t : Table} → Sound t → Fits t
 sound-fits {t} s =
@@ -88,11 +105,13 @@ sound-fits {t} s =
       semaphores = λ i h. semaphore-record.fits (semaphoreOf t i) (s .settled .objects .semaphores i h);
       mutexes = λ i h. mutex-record.fits (mutexOf t i) (s .settled .objects .mutexes i h);
       groups = λ i h. group-record.fits (groupOf t i) (s .settled .objects .groups i h);
+      channels = λ i h. channel-record.fits (channelOf t i) (rowOf t i) (s .settled .objects .channels i h);
       queues = λ q h j. omega (arith, all-at {P = λ v. v ≤ 32} (omega arith) (s .settled .queued .nothingElse q h) j);
       tick = s .settled .numbers .tick;
       defaultQuantum = omega (arith, s .settled .numbers .defaultMost);
       depth = omega (arith, s .settled .numbers .depth);
       running = omega (arith, s .runs .range);
+      messages = λ c h. row-fits (rowOf t c) (s .settled .queued .shaped .rows c h) (s .settled .objects .channels c h .messages);
     }
 
 -- ---- the image of a table that fits: it has the right length, shows the table, and holds bytes
@@ -101,7 +120,7 @@ module _ {t : Table} (f : Fits t) where
   abbrev n : List (List ℕ)
   n = numbersOf t
 
-  -- What is joined: the columns of each kind, the queues and the single numbers; and all that stands behind each.
+  -- What is joined: the columns of each kind, the queues, the single numbers and the messages; and all that stands behind each.
   abbrev ts : List (List ℕ)
   ts = columnsOf task.kind (t .tasks)
 
@@ -114,11 +133,20 @@ module _ {t : Table} (f : Fits t) where
   abbrev gs : List (List ℕ)
   gs = columnsOf group.kind (t .groups)
 
+  abbrev cs : List (List ℕ)
+  cs = columnsOf channel.kind (t .channels)
+
   abbrev ns : List (List ℕ)
   ns = (t .tick ∷ []) ∷ (t .defaultQuantum ∷ []) ∷ (t .depth ∷ []) ∷ (t .running ∷ []) ∷ []
 
+  abbrev past-qs : List (List ℕ)
+  past-qs = ns ++ t .messages
+
+  abbrev past-cs : List (List ℕ)
+  past-cs = t .queues ++ past-qs
+
   abbrev past-gs : List (List ℕ)
-  past-gs = t .queues ++ ns
+  past-gs = cs ++ past-cs
 
   abbrev past-ms : List (List ℕ)
   past-ms = gs ++ past-gs
@@ -141,6 +169,9 @@ module _ {t : Table} (f : Fits t) where
   gs-long : length gs ≡ group.kind .wide
   gs-long = columns-of-long group.kind (t .groups)
 
+  cs-long : length cs ≡ channel.kind .wide
+  cs-long = columns-of-long channel.kind (t .channels)
+
   at-ts : Stands (task.kind .first) ts n
   unfolding numbersOf
   at-ts = here ts past-ts
@@ -162,30 +193,45 @@ module _ {t : Table} (f : Fits t) where
   at-gs : Stands (group.kind .first) gs n
   at-gs = behind 0 gs (here gs past-gs)
 
+  further : (a : ℕ) (p : List (List ℕ)) → Stands a p past-cs → Stands (task.kind .wide + (semaphore.kind .wide + (mutex.kind .wide + (group.kind .wide + (channel.kind .wide + a))))) p n
+  further a p s =
+      behind (group.kind .wide + (channel.kind .wide + a)) p
+      (past (channel.kind .wide + a) (group.kind .wide) gs p past-gs gs-long (past a (channel.kind .wide) cs p past-cs cs-long s))
+
+  at-cs : Stands (channel.kind .first) cs n
+  at-cs = behind (group.kind .wide) cs (past 0 (group.kind .wide) gs cs past-gs gs-long (here cs past-cs))
+
   at-qs : Stands queueFirst (t .queues) n
-  at-qs = behind (group.kind .wide) (t .queues) (past 0 (group.kind .wide) gs (t .queues) past-gs gs-long (here (t .queues) ns))
+  at-qs = further 0 (t .queues) (here (t .queues) past-qs)
 
   at-ns : Stands tickColumn ns n
-  at-ns = behind (group.kind .wide + queueCount) ns (past queueCount (group.kind .wide) gs ns past-gs gs-long (past 0 queueCount (t .queues) ns ns (f .shaped .queues) (last ns)))
+  at-ns = further queueCount ns (past 0 queueCount (t .queues) ns past-qs (f .shaped .queues) (here ns (t .messages)))
+
+  at-rows : Stands messageFirst (t .messages) n
+  at-rows =
+      further (queueCount + 4) (t .messages)
+      (past 4 queueCount (t .queues) (t .messages) past-qs (f .shaped .queues) (past 0 4 ns (t .messages) (t .messages) refl (last (t .messages))))
 
   long : length n ≡ length layout
   unfolding numbersOf
-  long = simp length-append (omega (arith, ts-long, ss-long, ms-long, gs-long, f .shaped .queues))
+  long = simp length-append (omega (arith, ts-long, ss-long, ms-long, gs-long, cs-long, f .shaped .queues, f .shaped .messages))
 
   numbers-fit : Numbers layout n
-  unfolding task.made semaphore.made mutex.made group.made
+  unfolding task.made semaphore.made mutex.made group.made channel.made
   numbers-fit =
       fits-all layout n long
+      (fits-run layout n messageFirst channelCount 4 mostMessages message-wide message-even (t .messages) (f .shaped .messages) at-rows (f .shaped .rows) (f .messages)
       (fits-one layout n runningColumn (t .running) (at-ns 3 (omega arith)) refl (f .running)
       (fits-one layout n depthColumn (t .depth) (at-ns 2 (omega arith)) refl (f .depth)
       (fits-one layout n defaultColumn (t .defaultQuantum) (at-ns 1 (omega arith)) refl (f .defaultQuantum)
       (fits-one layout n tickColumn (t .tick) (at-ns 0 (omega arith)) refl (f .tick)
-      (fits-run layout n queueFirst queueCount slotCount queue-wide queue-even (t .queues) (f .shaped .queues) at-qs (f .shaped .slots) (f .queues)
+      (fits-run layout n queueFirst queueCount 1 slotCount queue-wide queue-even (t .queues) (f .shaped .queues) at-qs (f .shaped .slots) (f .queues)
+      (fits-kind layout n channel.kind channel-record.even (t .channels) at-cs (λ i p. channel-record.small-fits _ (f .channels i p))
       (fits-kind layout n group.kind group-record.even (t .groups) at-gs (λ i p. group-record.small-fits _ (f .groups i p))
       (fits-kind layout n mutex.kind mutex-record.even (t .mutexes) at-ms (λ i p. mutex-record.small-fits _ (f .mutexes i p))
       (fits-kind layout n semaphore.kind semaphore-record.even (t .semaphores) at-ss (λ i p. semaphore-record.small-fits _ (f .semaphores i p))
       (fits-kind layout n task.kind task-record.even (t .tasks) at-ts (λ i p. task-record.small-fits _ (f .tasks i p))
-      (fits-none layout n))))))))))
+      (fits-none layout n))))))))))))
 
   pub image-length : Image (imageOf t)
   unfolding imageOf
@@ -201,11 +247,13 @@ module _ {t : Table} (f : Fits t) where
         semaphores = records-back semaphore.kind n (t .semaphores) at-ss (f .shaped .semaphores) x;
         mutexes = records-back mutex.kind n (t .mutexes) at-ms (f .shaped .mutexes) x;
         groups = records-back group.kind n (t .groups) at-gs (f .shaped .groups) x;
+        channels = records-back channel.kind n (t .channels) at-cs (f .shaped .channels) x;
         queues = run-back queueFirst queueCount n (t .queues) at-qs (f .shaped .queues) x;
         tick = ap (λ (c : List ℕ). getD c 0 0) (at-ns 0 (omega arith)) x;
         defaultQuantum = ap (λ (c : List ℕ). getD c 0 0) (at-ns 1 (omega arith)) x;
         depth = ap (λ (c : List ℕ). getD c 0 0) (at-ns 2 (omega arith)) x;
         running = ap (λ (c : List ℕ). getD c 0 0) (at-ns 3 (omega arith)) x;
+        messages = run-back messageFirst channelCount n (t .messages) at-rows (f .shaped .messages) x;
       })
 
 pub image-small : (t : Table) → Bytes (imageOf t)

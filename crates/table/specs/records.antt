@@ -3,3 +3,4 @@ pub mod Task
 pub mod Semaphore
 pub mod Mutex
 pub mod Group
+pub mod Channel

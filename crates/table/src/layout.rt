@@ -9,7 +9,12 @@ pub const MUTEXES: usize = 16;
 
 pub const GROUPS: usize = 8;
 
-// The queue of the able tasks, then those of the semaphores, of the mutexes and of the groups.
+// Message queues, called channels, since a queue is a row of tasks; and the messages that each may hold.
+pub const CHANNELS: usize = 16;
+
+pub const MOST_MESSAGES: usize = 32;
+
+// The queue of the able tasks, then those of the semaphores, of the mutexes, of the groups and of the channels.
 pub const ABLE_QUEUE: usize = 0;
 
 pub const SEMAPHORE_QUEUE: usize = ABLE_QUEUE + 1;
@@ -18,7 +23,9 @@ pub const MUTEX_QUEUE: usize = SEMAPHORE_QUEUE + SEMAPHORES;
 
 pub const GROUP_QUEUE: usize = MUTEX_QUEUE + MUTEXES;
 
-pub const QUEUES: usize = GROUP_QUEUE + GROUPS;
+pub const CHANNEL_QUEUE: usize = GROUP_QUEUE + GROUPS;
+
+pub const QUEUES: usize = CHANNEL_QUEUE + CHANNELS;
 
 pub const SLOTS: usize = TASKS;
 
@@ -51,8 +58,10 @@ pub const DUE: usize = LEFT + 2 * TASKS;
 
 pub const MASK: usize = DUE + 4 * TASKS;
 
+pub const MESSAGE: usize = MASK + 4 * TASKS;
+
 // Semaphores.
-pub const SEMAPHORE_USED: usize = MASK + 4 * TASKS;
+pub const SEMAPHORE_USED: usize = MESSAGE + 4 * TASKS;
 
 pub const COUNT: usize = SEMAPHORE_USED + SEMAPHORES;
 
@@ -68,8 +77,15 @@ pub const GROUP_USED: usize = NESTING + MUTEXES;
 
 pub const FLAGS: usize = GROUP_USED + GROUPS;
 
+// Channels.
+pub const CHANNEL_USED: usize = FLAGS + 4 * GROUPS;
+
+pub const CAPACITY: usize = CHANNEL_USED + CHANNELS;
+
+pub const HELD: usize = CAPACITY + CHANNELS;
+
 // Queue q stands SLOTS * q behind.
-pub const QUEUE: usize = FLAGS + 4 * GROUPS;
+pub const QUEUE: usize = HELD + CHANNELS;
 
 // Single numbers.
 pub const TICK: usize = QUEUE + SLOTS * QUEUES;
@@ -80,5 +96,10 @@ pub const DEPTH: usize = DEFAULT_QUANTUM + 2;
 
 pub const RUNNING: usize = DEPTH + 1;
 
+// The messages, four bytes each; those of channel c stand ROW * c behind.
+pub const MESSAGES: usize = RUNNING + 1;
+
+pub const ROW: usize = 4 * MOST_MESSAGES;
+
 // How long an image is.
-pub const IMAGE_SIZE: usize = RUNNING + 1;
+pub const IMAGE_SIZE: usize = MESSAGES + ROW * CHANNELS;

@@ -27,7 +27,8 @@ pub fn is_able(s: &[u8], i: usize) -> bool
     (used == 1) & ((state == 0) & (suspend == 0))
 }
 
-// The queue where task i stands: 0 that of the able tasks, then those of the semaphores, of the mutexes and of the groups; QUEUES or more for none.
+// The queue where task i stands: 0 that of the able tasks, then those of the semaphores, of the mutexes, of the groups and of the channels; QUEUES
+// or more for none.
 pub fn place_of(s: &[u8], i: usize) -> usize
     requires { ⌜ (i < taskCount) × Image (now s) ⌝ }
     ensures { λ r. ⌜ r ≡ placeOf (taskOf (view (now (s .entry))) i) ⌝ }
@@ -45,6 +46,9 @@ pub fn place_of(s: &[u8], i: usize) -> usize
     }
     if state == 4 {
         return layout::GROUP_QUEUE + object as usize;
+    }
+    if state == 5 {
+        return layout::CHANNEL_QUEUE + object as usize;
     }
     layout::QUEUES
 }

@@ -4,7 +4,7 @@ ghost use Prim.Native.Nat.{_<_};
 ghost use lib.ListN.{take};
 ghost use Rattle.columns.specs.Views.{withRow};
 ghost use Rattle.rules.specs.Sizes.{taskCount};
-ghost use Rattle.rules.specs.Table.{noTask, taskOf, withTask, withBase, withWork, withSuspend, withLeft, withState, withMark, withOutcome, asking, withAsked};
+ghost use Rattle.rules.specs.Table.{noTask, taskOf, withTask, withBase, withWork, withSuspend, withLeft, withState, withMark, withOutcome, withMessage, asking, withAsked};
 ghost use Rattle.table.specs.kinds.Task.{kind, row};
 ghost use Rattle.table.specs.Image.{Image, view};
 use crate::layout;
@@ -107,6 +107,14 @@ pub fn get_consume(s: &[u8], i: usize) -> u8
     columns::get1(s, layout::CONSUME, i)
 }
 
+// The last message that it was given.
+pub fn get_message(s: &[u8], i: usize) -> u32
+    requires { ⌜ (i < taskCount) × Image (now s) ⌝ }
+    ensures { λ r. ⌜ r ≡ taskOf (view (now (s .entry))) i .message ⌝ }
+{
+    columns::get4(s, layout::MESSAGE, i)
+}
+
 pub fn set_base(s: &mut [u8], i: usize, base: u8)
     requires { ⌜ (i < taskCount) × Image (now s) ⌝ }
     ensures { λ _. ⌜ view (now (s .exit)) ≡ withTask i (withBase base (taskOf (view (now (s .entry))) i)) (view (now (s .entry))) ⌝ }
@@ -141,6 +149,13 @@ pub fn set_outcome(s: &mut [u8], i: usize, outcome: u8)
     ensures { λ _. ⌜ view (now (s .exit)) ≡ withTask i (withOutcome outcome (taskOf (view (now (s .entry))) i)) (view (now (s .entry))) ⌝ }
 {
     columns::put1(s, layout::OUTCOME, i, outcome);
+}
+
+pub fn set_message(s: &mut [u8], i: usize, message: u32)
+    requires { ⌜ (i < taskCount) × Image (now s) ⌝ }
+    ensures { λ _. ⌜ view (now (s .exit)) ≡ withTask i (withMessage message (taskOf (view (now (s .entry))) i)) (view (now (s .entry))) ⌝ }
+{
+    columns::put4(s, layout::MESSAGE, i, message);
 }
 
 // The state, with the number of the object waited for, 0 where none is; nothing is asked of flags.
@@ -193,6 +208,7 @@ pub fn no_task() -> rules::Task
         mask: 0,
         test: 0,
         consume: 0,
+        message: 0,
     }
 }
 
@@ -229,4 +245,5 @@ pub fn store(s: &mut [u8], i: usize, k: rules::Task)
     columns::put2(s, layout::LEFT, i, k.left);
     columns::put4(s, layout::DUE, i, k.due);
     columns::put4(s, layout::MASK, i, k.mask);
+    columns::put4(s, layout::MESSAGE, i, k.message);
 }

@@ -43,6 +43,7 @@ fn new_task(base: u8, quantum: u16) -> rules::Task
         mask: 0,
         test: 0,
         consume: 0,
+        message: 0,
     }
 }
 

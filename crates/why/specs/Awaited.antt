@@ -6,9 +6,9 @@ use native.Mathlib.Omega.{arith}
 use lib.Dec.{eqb, ltb}
 use lib.ListN.{List·getD-eq-default}
 use borrow.Author.Tests.{eqb-true, ne-eqb}
-use Rattle.rules.specs.Sizes.{taskCount, semaphoreCount, mutexCount, waitsSemaphore, waitsMutex, waitsFlags}
-use Rattle.rules.specs.Table.{Table, taskOf, semaphoreOf, mutexOf, groupOf, holderOf, noTask, noSemaphore, noMutex}
-use Rattle.rules.specs.Family.{Family, semaphores, mutexes, groups}
+use Rattle.rules.specs.Sizes.{taskCount, semaphoreCount, mutexCount, channelCount, waitsSemaphore, waitsMutex, waitsFlags, waitsMessage}
+use Rattle.rules.specs.Table.{Table, taskOf, semaphoreOf, mutexOf, groupOf, channelOf, holderOf, noTask, noSemaphore, noMutex, noChannel}
+use Rattle.rules.specs.Family.{Family, semaphores, mutexes, groups, channels}
 use Rattle.rules.specs.Sound.{implies, eachOf, Shaped}
 use Rattle.why.specs.Tests.{ofAwaited, isObjectUsed, offersNothing, isApart, isHolderUsed}
 
@@ -39,9 +39,13 @@ module _ (t : Table) (i : ℕ) {state : ℕ} (e : state ≡ taskOf t i .state) (
   unfolding ofAwaited eachOf
   of-group s = rw (sym e ∙ s) (cond-self (passes groups))
 
-  of-passing : (state ≡ waitsSemaphore → passes semaphores ≡ true) → (state ≡ waitsMutex → passes mutexes ≡ true) → (state ≡ waitsFlags → passes groups ≡ true) → ofAwaited t i passes ≡ true
+  of-channel : state ≡ waitsMessage → ofAwaited t i passes ≡ passes channels
   unfolding ofAwaited eachOf
-  of-passing a b c = rw (sym e, passes-so a, passes-so b, passes-so c)
+  of-channel s = rw (sym e ∙ s) (cond-self (passes channels))
+
+  of-passing : (state ≡ waitsSemaphore → passes semaphores ≡ true) → (state ≡ waitsMutex → passes mutexes ≡ true) → (state ≡ waitsFlags → passes groups ≡ true) → (state ≡ waitsMessage → passes channels ≡ true) → ofAwaited t i passes ≡ true
+  unfolding ofAwaited eachOf
+  of-passing a b c d = rw (sym e, passes-so a, passes-so b, passes-so c, passes-so d)
 
 -- ---- the three tests
 
@@ -58,6 +62,10 @@ module _ (t : Table) (i : ℕ) {state object : ℕ} (e : state ≡ taskOf t i .s
   unfolding isObjectUsed
   used-group s u = rw (of-group t i e (λ g. eqb (g .used t (taskOf t i .object)) 1) s, u, f)
 
+  pub used-channel : {n : ℕ} → state ≡ waitsMessage → n ≡ channelOf t object .used → eqb n 1 ≡ isObjectUsed t i
+  unfolding isObjectUsed
+  used-channel s u = rw (of-channel t i e (λ g. eqb (g .used t (taskOf t i .object)) 1) s, u, f)
+
   pub nothing-semaphore : {b : Bool} → state ≡ waitsSemaphore → b ≡ not (ltb 0 (semaphoreOf t object .count)) → b ≡ offersNothing t i
   unfolding offersNothing
   nothing-semaphore s u = rw (of-semaphore t i e (λ g. not (g .offers t (taskOf t i .object))) s, u, f)
@@ -66,31 +74,38 @@ module _ (t : Table) (i : ℕ) {state object : ℕ} (e : state ≡ taskOf t i .s
   unfolding offersNothing
   nothing-mutex s u = rw (of-mutex t i e (λ g. not (g .offers t (taskOf t i .object))) s, u, f)
 
+  pub nothing-channel : {b : Bool} → state ≡ waitsMessage → b ≡ not (ltb 0 (channelOf t object .held)) → b ≡ offersNothing t i
+  unfolding offersNothing
+  nothing-channel s u = rw (of-channel t i e (λ g. not (g .offers t (taskOf t i .object))) s, u, f)
+
   pub apart-mutex : {n : ℕ} → state ≡ waitsMutex → n ≡ holderOf t object → not (eqb n i) ≡ isApart t i
   unfolding isApart
   apart-mutex s u = rw (of-mutex t i e (λ g. not (eqb (g .holder t (taskOf t i .object)) i)) s, u, f)
 
 module _ (t : Table) (i : ℕ) {state : ℕ} (e : state ≡ taskOf t i .state) where
-  pub used-none : (state ≡ waitsSemaphore → ⊥) → (state ≡ waitsMutex → ⊥) → (state ≡ waitsFlags → ⊥) → true ≡ isObjectUsed t i
+  pub used-none : (state ≡ waitsSemaphore → ⊥) → (state ≡ waitsMutex → ⊥) → (state ≡ waitsFlags → ⊥) → (state ≡ waitsMessage → ⊥) → true ≡ isObjectUsed t i
   unfolding isObjectUsed
-  used-none a b c = sym (of-passing t i e (λ g. eqb (g .used t (taskOf t i .object)) 1) (λ z. absurd (a z)) (λ z. absurd (b z)) (λ z. absurd (c z)))
+  used-none a b c d = sym (of-passing t i e (λ g. eqb (g .used t (taskOf t i .object)) 1) (λ z. absurd (a z)) (λ z. absurd (b z)) (λ z. absurd (c z)) (λ z. absurd (d z)))
 
   -- A group offers nothing, whatever is asked of its flags; and what is no mutex has no holder.
-  pub nothing-else : (state ≡ waitsSemaphore → ⊥) → (state ≡ waitsMutex → ⊥) → true ≡ offersNothing t i
+  pub nothing-else : (state ≡ waitsSemaphore → ⊥) → (state ≡ waitsMutex → ⊥) → (state ≡ waitsMessage → ⊥) → true ≡ offersNothing t i
   unfolding offersNothing
-  nothing-else a b = sym (of-passing t i e (λ g. not (g .offers t (taskOf t i .object))) (λ z. absurd (a z)) (λ z. absurd (b z)) (λ z. refl))
+  nothing-else a b d = sym (of-passing t i e (λ g. not (g .offers t (taskOf t i .object))) (λ z. absurd (a z)) (λ z. absurd (b z)) (λ z. refl) (λ z. absurd (d z)))
 
   pub apart-else : i < taskCount → (state ≡ waitsMutex → ⊥) → true ≡ isApart t i
   unfolding isApart
   apart-else h b =
       let n : not (eqb taskCount i) ≡ true = rw (ne-eqb taskCount i (λ z. omega arith)) in
-      sym (of-passing t i e (λ g. not (eqb (g .holder t (taskOf t i .object)) i)) (λ z. n) (λ z. absurd (b z)) (λ z. n))
+      sym (of-passing t i e (λ g. not (eqb (g .holder t (taskOf t i .object)) i)) (λ z. n) (λ z. absurd (b z)) (λ z. n) (λ z. n))
 
 -- ---- an object that is none, and a holder
 
 module _ {t : Table} (s : Shaped t) where
   pub no-count : {o : ℕ} → semaphoreCount ≤ o → true ≡ not (ltb 0 (semaphoreOf t o .count))
   no-count {o} h = rw (List·getD-eq-default (t .semaphores) noSemaphore {n = o} (omega (arith, s .semaphores)))
+
+  pub no-message : {o : ℕ} → channelCount ≤ o → true ≡ not (ltb 0 (channelOf t o .held))
+  no-message {o} h = rw (List·getD-eq-default (t .channels) noChannel {n = o} (omega (arith, s .channels)))
 
   pub no-holder : {o : ℕ} → mutexCount ≤ o → false ≡ not (eqb (mutexOf t o .holder) 0)
   no-holder {o} h = rw (List·getD-eq-default (t .mutexes) noMutex {n = o} (omega (arith, s .mutexes)))

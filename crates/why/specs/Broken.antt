@@ -8,10 +8,11 @@ use mathlib.Core.Logic.{_⊎_}
 use mathlib.Core.Bool.{true}
 use Prim.Native.Nat.{ℕ, _+_, _*_, _-_, _/_, _%_, _≤_, _<_}
 use lib.Dec.{eqb}
+use lib.ListN.{getD}
 use Rattle.queue.specs.Order.{Le, count}
-use Rattle.rules.specs.Sizes.{taskCount, semaphoreCount, mutexCount, groupCount, lastPriority, mostNested, mostQuantum, mostCount, ticksRound, flagSets, testCount, plain, delayed, waitsFlags, objectDeleted}
+use Rattle.rules.specs.Sizes.{taskCount, semaphoreCount, mutexCount, groupCount, channelCount, mostMessages, greatestMessage, lastPriority, mostNested, mostQuantum, mostCount, ticksRound, flagSets, testCount, plain, delayed, waitsFlags, objectDeleted}
 use Rattle.rules.specs.Chain.{Fresh}
-use Rattle.rules.specs.Table.{Table, taskOf, semaphoreOf, mutexOf, groupOf, queueOf, queueCount, ableQueue, firstIn, slotIn, works, isAble, written, noTask, noSemaphore, noMutex, noGroup}
+use Rattle.rules.specs.Table.{Table, taskOf, semaphoreOf, mutexOf, groupOf, channelOf, rowOf, queueOf, queueCount, ableQueue, firstIn, slotIn, works, isAble, written, noTask, noSemaphore, noMutex, noGroup, noChannel}
 use Rattle.rules.specs.Move.{next, baseOf}
 use Rattle.rules.specs.Family.{Family, Among, families, lastState, objectsIn, placeOf}
 use Rattle.rules.specs.Sound.{once, marksIn, asksIn}
@@ -25,6 +26,20 @@ queueAt n = n / taskCount
 
 abbrev pub slotAt : ℕ → ℕ
 slotAt n = n % taskCount
+
+-- The records of the rules on messages: number n is slot `messageAt n` of channel `channelAt n`, so slot j of channel c is 32 c + j. (Message queues are
+-- called channels, since a queue is a row of tasks.)
+abbrev pub messageCount : ℕ
+messageCount = channelCount * mostMessages
+
+abbrev pub channelAt : ℕ → ℕ
+channelAt n = n / mostMessages
+
+abbrev pub messageAt : ℕ → ℕ
+messageAt n = n % mostMessages
+
+abbrev pub messageIn : ℕ → Table → ℕ
+messageIn n t = getD (rowOf t (channelAt n)) (messageAt n) 0
 
 -- It is so of the family of the object that task i waits for, where it waits for one.
 abbrev pub OfAwaited : Table → ℕ → (Family → Type 0) → Type 0
@@ -46,6 +61,7 @@ pub data Broken (t : Table) : (rule number : ℕ) → Type 0 where
   taskMask : {i : ℕ} → i < taskCount → (taskOf t i .mask < asksIn (taskOf t i .state) flagSets → ⊥) → Broken t 0x0C i
   taskTest : {i : ℕ} → i < taskCount → (taskOf t i .test < asksIn (taskOf t i .state) testCount → ⊥) → Broken t 0x0D i
   taskConsume : {i : ℕ} → i < taskCount → (taskOf t i .consume < asksIn (taskOf t i .state) 2 → ⊥) → Broken t 0x0E i
+  taskMessage : {i : ℕ} → i < taskCount → (taskOf t i .message ≤ greatestMessage → ⊥) → Broken t 0x0F i
   -- ---- a task's fields together
   taskFree : {i : ℕ} → i < taskCount → ((taskOf t i .used ≡ 0 → taskOf t i ≡ noTask) → ⊥) → Broken t 0x10 i
   taskPlainMark : {i : ℕ} → i < taskCount → ((taskOf t i .state ≡ plain → taskOf t i .marked ≡ 0) → ⊥) → Broken t 0x11 i
@@ -68,6 +84,14 @@ pub data Broken (t : Table) : (rule number : ℕ) → Type 0 where
   groupUsed : {i : ℕ} → i < groupCount → (groupOf t i .used ≤ 1 → ⊥) → Broken t 0x40 i
   groupFlags : {i : ℕ} → i < groupCount → (groupOf t i .flags < flagSets → ⊥) → Broken t 0x41 i
   groupFree : {i : ℕ} → i < groupCount → ((groupOf t i .used ≡ 0 → groupOf t i ≡ noGroup) → ⊥) → Broken t 0x42 i
+  -- ---- a channel; then of a slot of its row: a message has 32 bits, and a slot without one is 0
+  channelUsed : {i : ℕ} → i < channelCount → (channelOf t i .used ≤ 1 → ⊥) → Broken t 0x50 i
+  channelCapacity : {i : ℕ} → i < channelCount → (channelOf t i .capacity ≤ mostMessages → ⊥) → Broken t 0x51 i
+  channelHeld : {i : ℕ} → i < channelCount → (channelOf t i .held ≤ channelOf t i .capacity → ⊥) → Broken t 0x52 i
+  channelFree : {i : ℕ} → i < channelCount → ((channelOf t i .used ≡ 0 → channelOf t i ≡ noChannel) → ⊥) → Broken t 0x53 i
+  channelRoom : {i : ℕ} → i < channelCount → ((channelOf t i .used ≡ 1 → 1 ≤ channelOf t i .capacity) → ⊥) → Broken t 0x54 i
+  messageRange : {n : ℕ} → n < messageCount → (messageIn n t ≤ greatestMessage → ⊥) → Broken t 0x55 n
+  messageUnused : {n : ℕ} → n < messageCount → ((channelOf t (channelAt n) .held ≤ messageAt n → messageIn n t ≡ 0) → ⊥) → Broken t 0x56 n
   -- ---- who waits, of a task; who holds, of a mutex
   waitUsed : {i : ℕ} → i < taskCount → (OfAwaited t i (λ f. f .used t (taskOf t i .object) ≡ 1) → ⊥) → Broken t 0x80 i
   waitNothing : {i : ℕ} → i < taskCount → (OfAwaited t i (λ f. f .offers t (taskOf t i .object) ≡ true → ⊥) → ⊥) → Broken t 0x81 i

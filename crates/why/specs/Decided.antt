@@ -15,8 +15,8 @@ use Rattle.rules.specs.Table.{Table, taskOf, mutexOf, queueOf, works, isAble, w
 use Rattle.rules.specs.Family.{placeOf}
 use Rattle.rules.specs.Sound.{Shaped, once}
 use Rattle.rules.specs.Decides.{Decides, equals, at-most, itself, fails, if-so, either, each-of}
-use Rattle.rules.specs.Tested.{no-task, no-semaphore, no-mutex, no-group, ends, worked}
-use Rattle.why.specs.Broken.{OfAwaited, Broken, queueAt, slotAt, taskUsed, taskBase, taskWork, taskSuspend, taskQuantum, taskLeft, taskState, taskObject, taskMarked, taskDue, taskOutcome, taskMask, taskTest, taskConsume, taskFree, taskPlainMark, taskDelayMark, taskLeftMost, taskAsks, taskTurn, semaphoreUsed, semaphoreCounts, semaphoreFree, mutexUsed, mutexHolder, mutexNesting, mutexFree, mutexUnheld, mutexHeld, groupUsed, groupFlags, groupFree, waitUsed, waitNothing, waitApart, holderUsed, queuePlaces, queueNothingElse, queueOrdered, taskWorked, taskNotDue, tickRange, depthRange, runningRange, runningFirst, runningAble, defaultLeast, defaultMost}
+use Rattle.rules.specs.Tested.{no-task, no-semaphore, no-mutex, no-group, no-channel, ends, worked}
+use Rattle.why.specs.Broken.{OfAwaited, Broken, queueAt, slotAt, taskUsed, taskBase, taskWork, taskSuspend, taskQuantum, taskLeft, taskState, taskObject, taskMarked, taskDue, taskOutcome, taskMask, taskTest, taskConsume, taskMessage, taskFree, taskPlainMark, taskDelayMark, taskLeftMost, taskAsks, taskTurn, semaphoreUsed, semaphoreCounts, semaphoreFree, mutexUsed, mutexHolder, mutexNesting, mutexFree, mutexUnheld, mutexHeld, groupUsed, groupFlags, groupFree, channelUsed, channelCapacity, channelHeld, channelFree, channelRoom, messageRange, messageUnused, waitUsed, waitNothing, waitApart, holderUsed, queuePlaces, queueNothingElse, queueOrdered, taskWorked, taskNotDue, tickRange, depthRange, runningRange, runningFirst, runningAble, defaultLeast, defaultMost}
 use Rattle.why.specs.Tests.{Test, tests, keptIn, isKept, ruleEnd, recordEnd, ofAwaited, isObjectUsed, offersNothing, isApart, isHolderUsed, isPlaced, mayRun}
 use Rattle.why.specs.TestLaws.{Every, end, with}
 use Rattle.why.specs.Slots.{stand-decides}
@@ -95,6 +95,7 @@ broken-fails {t} w (taskOutcome {i} h n) = (omega arith, h, outside h at-most n)
 broken-fails {t} w (taskMask {i} h n) = (omega arith, h, outside h at-most n)
 broken-fails {t} w (taskTest {i} h n) = (omega arith, h, outside h at-most n)
 broken-fails {t} w (taskConsume {i} h n) = (omega arith, h, outside h at-most n)
+broken-fails {t} w (taskMessage {i} h n) = (omega arith, h, outside h at-most n)
 broken-fails {t} w (taskFree {i} h n) = (omega arith, h, outside h (if-so equals (no-task _)) n)
 broken-fails {t} w (taskPlainMark {i} h n) = (omega arith, h, outside h (if-so equals equals) n)
 broken-fails {t} w (taskDelayMark {i} h n) = (omega arith, h, outside h (if-so equals equals) n)
@@ -113,6 +114,13 @@ broken-fails {t} w (mutexHeld {i} h n) = (omega arith, omega arith, outside h (i
 broken-fails {t} w (groupUsed {i} h n) = (omega arith, omega arith, outside h at-most n)
 broken-fails {t} w (groupFlags {i} h n) = (omega arith, omega arith, outside h at-most n)
 broken-fails {t} w (groupFree {i} h n) = (omega arith, omega arith, outside h (if-so equals (no-group _)) n)
+broken-fails {t} w (channelUsed {i} h n) = (omega arith, omega arith, outside h at-most n)
+broken-fails {t} w (channelCapacity {i} h n) = (omega arith, omega arith, outside h at-most n)
+broken-fails {t} w (channelHeld {i} h n) = (omega arith, omega arith, outside h at-most n)
+broken-fails {t} w (channelFree {i} h n) = (omega arith, omega arith, outside h (if-so equals (no-channel _)) n)
+broken-fails {t} w (channelRoom {i} h n) = (omega arith, omega arith, outside h (if-so equals at-most) n)
+broken-fails {t} w (messageRange {n = i} h n) = (omega arith, h, outside h at-most n)
+broken-fails {t} w (messageUnused {n = i} h n) = (omega arith, h, outside h (if-so at-most equals) n)
 broken-fails {t} w (waitUsed {i} h n) = (omega arith, h, outside h (used-decides t i) n)
 broken-fails {t} w (waitNothing {i} h n) = (omega arith, h, outside h (nothing-decides t i) n)
 broken-fails {t} w (waitApart {i} h n) = (omega arith, h, outside h (apart-decides t i) n)
@@ -184,6 +192,7 @@ all-break t w =
     and (λ i h e. taskMask h (refutes at-most e))
     and (λ i h e. taskTest h (refutes at-most e))
     and (λ i h e. taskConsume h (refutes at-most e))
+    and (λ i h e. taskMessage h (refutes at-most e))
     and (λ i h e. taskFree h (refutes (if-so equals (no-task _)) e))
     and (λ i h e. taskPlainMark h (refutes (if-so equals equals) e))
     and (λ i h e. taskDelayMark h (refutes (if-so equals equals) e))
@@ -202,6 +211,13 @@ all-break t w =
     and (λ i h e. groupUsed h (refutes at-most e))
     and (λ i h e. groupFlags h (refutes at-most e))
     and (λ i h e. groupFree h (refutes (if-so equals (no-group _)) e))
+    and (λ i h e. channelUsed h (refutes at-most e))
+    and (λ i h e. channelCapacity h (refutes at-most e))
+    and (λ i h e. channelHeld h (refutes at-most e))
+    and (λ i h e. channelFree h (refutes (if-so equals (no-channel _)) e))
+    and (λ i h e. channelRoom h (refutes (if-so equals at-most) e))
+    and (λ i h e. messageRange h (refutes at-most e))
+    and (λ i h e. messageUnused h (refutes (if-so at-most equals) e))
     and (λ i h e. waitUsed h (refutes (used-decides t i) e))
     and (λ i h e. waitNothing h (refutes (nothing-decides t i) e))
     and (λ i h e. waitApart h (refutes (apart-decides t i) e))

@@ -5,16 +5,16 @@ use mathlib.Core.Bool.{true, false, true≢false, false≢true}
 use Prim.Native.Nat.{ℕ, _+_, _*_, _≤_, _<_}
 use native.Mathlib.Omega.{arith}
 use lib.Dec.{eqb}
-use lib.ListN.{length}
+use lib.ListN.{length, getD}
 use Rattle.queue.specs.Order.{Le, count}
-use Rattle.rules.specs.Sizes.{taskCount}
-use Rattle.rules.specs.Table.{Table, taskOf, queueOf, queueCount, slotIn, works, written}
+use Rattle.rules.specs.Sizes.{taskCount, channelCount, mostMessages, greatestMessage}
+use Rattle.rules.specs.Table.{Table, taskOf, channelOf, rowOf, queueOf, queueCount, slotIn, works, written}
 use Rattle.rules.specs.Family.{placeOf}
-use Rattle.rules.specs.Sound.{once, Shaped, TaskInRange, SoundTask, SoundObjects, SoundQueues, Sound}
+use Rattle.rules.specs.Sound.{once, Shaped, TaskInRange, SoundTask, SoundChannel, SoundObjects, SoundQueues, Sound}
 use Rattle.rules.specs.Decides.{equals, at-most, fails, if-so}
-use Rattle.rules.specs.Tested.{no-task, no-semaphore, no-mutex, no-group}
+use Rattle.rules.specs.Tested.{no-task, no-semaphore, no-mutex, no-group, no-channel}
 use Rattle.why.specs.declared.Reason.{Reason}
-use Rattle.why.specs.Broken.{Broken, queueAt, slotAt, taskUsed, taskBase, taskWork, taskSuspend, taskQuantum, taskLeft, taskState, taskObject, taskMarked, taskDue, taskOutcome, taskMask, taskTest, taskConsume, taskFree, taskPlainMark, taskDelayMark, taskLeftMost, taskAsks, taskTurn, semaphoreUsed, semaphoreCounts, semaphoreFree, mutexUsed, mutexHolder, mutexNesting, mutexFree, mutexUnheld, mutexHeld, groupUsed, groupFlags, groupFree, waitUsed, waitNothing, waitApart, holderUsed, queuePlaces, queueNothingElse, queueOrdered, taskWorked, taskNotDue, tickRange, depthRange, runningRange, runningFirst, runningAble, defaultLeast, defaultMost}
+use Rattle.why.specs.Broken.{Broken, queueAt, slotAt, channelAt, messageAt, taskUsed, taskBase, taskWork, taskSuspend, taskQuantum, taskLeft, taskState, taskObject, taskMarked, taskDue, taskOutcome, taskMask, taskTest, taskConsume, taskMessage, taskFree, taskPlainMark, taskDelayMark, taskLeftMost, taskAsks, taskTurn, semaphoreUsed, semaphoreCounts, semaphoreFree, mutexUsed, mutexHolder, mutexNesting, mutexFree, mutexUnheld, mutexHeld, groupUsed, groupFlags, groupFree, channelUsed, channelCapacity, channelHeld, channelFree, channelRoom, messageRange, messageUnused, waitUsed, waitNothing, waitApart, holderUsed, queuePlaces, queueNothingElse, queueOrdered, taskWorked, taskNotDue, tickRange, depthRange, runningRange, runningFirst, runningAble, defaultLeast, defaultMost}
 use Rattle.why.specs.Tests.{whyOf, reason, ruleEnd, keptIn, isKept}
 use Rattle.why.specs.Slots.{all-slots, slot-of, ordered-slots, slots-ordered, stand-decides, each-slot}
 use Rattle.why.specs.Decided.{unrefuted, used-decides, nothing-decides, apart-decides, holder-decides, work-decides, placed-decides, run-decides, broken-fails, fails-broken}
@@ -42,6 +42,7 @@ sound-keeps {t} s (taskOutcome {i} h n) = n (s .settled .tasks i h .inRange .out
 sound-keeps {t} s (taskMask {i} h n) = n (s .settled .tasks i h .inRange .mask)
 sound-keeps {t} s (taskTest {i} h n) = n (s .settled .tasks i h .inRange .test)
 sound-keeps {t} s (taskConsume {i} h n) = n (s .settled .tasks i h .inRange .consume)
+sound-keeps {t} s (taskMessage {i} h n) = n (s .settled .tasks i h .inRange .message)
 sound-keeps {t} s (taskFree {i} h n) = n (s .settled .tasks i h .freeZero)
 sound-keeps {t} s (taskPlainMark {i} h n) = n (s .settled .tasks i h .plainMark)
 sound-keeps {t} s (taskDelayMark {i} h n) = n (s .settled .tasks i h .delayMark)
@@ -60,6 +61,13 @@ sound-keeps {t} s (mutexHeld {i} h n) = n (s .settled .objects .mutexes i h .hel
 sound-keeps {t} s (groupUsed {i} h n) = n (s .settled .objects .groups i h .used)
 sound-keeps {t} s (groupFlags {i} h n) = n (s .settled .objects .groups i h .flags)
 sound-keeps {t} s (groupFree {i} h n) = n (s .settled .objects .groups i h .free)
+sound-keeps {t} s (channelUsed {i} h n) = n (s .settled .objects .channels i h .used)
+sound-keeps {t} s (channelCapacity {i} h n) = n (s .settled .objects .channels i h .capacity)
+sound-keeps {t} s (channelHeld {i} h n) = n (s .settled .objects .channels i h .held)
+sound-keeps {t} s (channelFree {i} h n) = n (s .settled .objects .channels i h .free)
+sound-keeps {t} s (channelRoom {i} h n) = n (s .settled .objects .channels i h .room)
+sound-keeps {t} s (messageRange {n = i} h n) = n (s .settled .objects .channels (channelAt i) (omega arith) .messages (messageAt i) (omega arith))
+sound-keeps {t} s (messageUnused {n = i} h n) = n (s .settled .objects .channels (channelAt i) (omega arith) .unused (messageAt i) (omega arith))
 sound-keeps {t} s (waitUsed {i} h n) = n (λ f a e. s .settled .objects .waits i h f a e .used)
 sound-keeps {t} s (waitNothing {i} h n) = n (λ f a e. s .settled .objects .waits i h f a e .nothing)
 sound-keeps {t} s (waitApart {i} h n) = n (λ f a e. s .settled .objects .waits i h f a e .apart)
@@ -97,6 +105,7 @@ module _ {t : Table} (w : Shaped t) (keeps : (c i : ℕ) → Broken t c i → �
         mask = unrefuted at-most (λ n. keeps _ i (taskMask h n));
         test = unrefuted at-most (λ n. keeps _ i (taskTest h n));
         consume = unrefuted at-most (λ n. keeps _ i (taskConsume h n));
+        message = unrefuted at-most (λ n. keeps _ i (taskMessage h n));
       }
 
   tasks : (i : ℕ) → i < taskCount → SoundTask (taskOf t i)
@@ -109,6 +118,25 @@ module _ {t : Table} (w : Shaped t) (keeps : (c i : ℕ) → Broken t c i → �
         left = unrefuted at-most (λ n. keeps _ i (taskLeftMost h n));
         asks = unrefuted (if-so equals at-most) (λ n. keeps _ i (taskAsks h n));
         turn = unrefuted (if-so equals at-most) (λ n. keeps _ i (taskTurn h n));
+      }
+
+  -- Each slot of each channel's row.
+  messages : (c : ℕ) → c < channelCount → (j : ℕ) → j < mostMessages → getD (rowOf t c) j 0 ≤ greatestMessage
+  messages = each-slot channelCount (λ c j. getD (rowOf t c) j 0 ≤ greatestMessage) (λ n h. unrefuted at-most (λ k. keeps _ n (messageRange h k)))
+
+  unused : (c : ℕ) → c < channelCount → (j : ℕ) → j < mostMessages → channelOf t c .held ≤ j → getD (rowOf t c) j 0 ≡ 0
+  unused = each-slot channelCount (λ c j. channelOf t c .held ≤ j → getD (rowOf t c) j 0 ≡ 0) (λ n h. unrefuted (if-so at-most equals) (λ k. keeps _ n (messageUnused h k)))
+
+  channels : (i : ℕ) → i < channelCount → SoundChannel (channelOf t i) (rowOf t i)
+  channels i h =
+      record {
+        used = unrefuted at-most (λ n. keeps _ i (channelUsed h n));
+        capacity = unrefuted at-most (λ n. keeps _ i (channelCapacity h n));
+        held = unrefuted at-most (λ n. keeps _ i (channelHeld h n));
+        free = unrefuted (if-so equals (no-channel _)) (λ n. keeps _ i (channelFree h n));
+        room = unrefuted (if-so equals at-most) (λ n. keeps _ i (channelRoom h n));
+        messages = messages i h;
+        unused = unused i h;
       }
 
   objects : SoundObjects t
@@ -132,6 +160,7 @@ module _ {t : Table} (w : Shaped t) (keeps : (c i : ℕ) → Broken t c i → �
           flags = unrefuted at-most (λ n. keeps _ i (groupFlags h n));
           free = unrefuted (if-so equals (no-group _)) (λ n. keeps _ i (groupFree h n));
         };
+        channels = channels;
         waits = λ i h f a e. record {
           used = unrefuted (used-decides t i) (λ n. keeps _ i (waitUsed h n)) f a e;
           nothing = unrefuted (nothing-decides t i) (λ n. keeps _ i (waitNothing h n)) f a e;
@@ -142,16 +171,16 @@ module _ {t : Table} (w : Shaped t) (keeps : (c i : ℕ) → Broken t c i → �
 
   -- Each slot of each queue.
   stands : (q : ℕ) → q < queueCount → (j : ℕ) → j < taskCount → slotIn q j t ≤ taskCount
-  stands = each-slot (λ q j. slotIn q j t ≤ taskCount) (λ n h. unrefuted at-most (λ k. keeps _ n (queueNothingElse h k)))
+  stands = each-slot queueCount (λ q j. slotIn q j t ≤ taskCount) (λ n h. unrefuted at-most (λ k. keeps _ n (queueNothingElse h k)))
 
   before-next : (q : ℕ) → q < queueCount → (j : ℕ) → j < taskCount → Le (works t) (slotIn q j t) (slotIn q (j + 1) t)
-  before-next = each-slot (λ q j. Le (works t) (slotIn q j t) (slotIn q (j + 1) t)) (λ n h. unrefuted (stand-decides (works t) _ _) (λ k. keeps _ n (queueOrdered h k)))
+  before-next = each-slot queueCount (λ q j. Le (works t) (slotIn q j t) (slotIn q (j + 1) t)) (λ n h. unrefuted (stand-decides (works t) _ _) (λ k. keeps _ n (queueOrdered h k)))
 
   queues : SoundQueues t
   queues =
       record {
         shaped = w;
-        places = each-slot (λ q i. count (written i) (queueOf t q) ≡ once (eqb (placeOf (taskOf t i)) q)) (λ n h. unrefuted (placed-decides t (queueAt n) (slotAt n)) (λ k. keeps _ n (queuePlaces h k)));
+        places = each-slot queueCount (λ q i. count (written i) (queueOf t q) ≡ once (eqb (placeOf (taskOf t i)) q)) (λ n h. unrefuted (placed-decides t (queueAt n) (slotAt n)) (λ k. keeps _ n (queuePlaces h k)));
         nothingElse = λ q l. all-slots (queueOf t q) (λ j b. stands q l j (omega (arith, w .slots q l)));
         ordered = λ q l. ordered-slots (works t) (queueOf t q) (λ j b. before-next q l j (omega (arith, w .slots q l)));
       }

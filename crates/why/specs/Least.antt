@@ -10,7 +10,7 @@ use borrow.Author.Tests.{ltb-true, ltb-false, lt-ltb, le-ltb}
 use Rattle.rules.specs.Sizes.{taskCount}
 use Rattle.rules.specs.Table.{Table}
 use Rattle.why.specs.declared.Reason.{Reason}
-use Rattle.why.specs.Broken.{recordCount}
+use Rattle.why.specs.Broken.{recordCount, messageCount}
 use Rattle.why.specs.Tests.{least, firstAt, isKept, recordEnd, reason, whyFrom, whyOf, ruleEnd}
 
 -- ---- a turn of a loop
@@ -42,11 +42,12 @@ module _ (c : ℕ) (t : Table) where
 
 pub end-most : (c : ℕ) → recordEnd c ≤ recordCount
 unfolding recordEnd
-end-most c = go (leb 0x90 c && ltb c 0xA0)
+end-most c = go (leb 0x90 c && ltb c 0xA0) (leb 0x55 c && ltb c 0x60)
   where
-    go : (b : Bool) → cond b recordCount taskCount ≤ recordCount
-    go true = omega arith
-    go false = omega arith
+    go : (a b : Bool) → cond a recordCount (cond b messageCount taskCount) ≤ recordCount
+    go true b = omega arith
+    go false true = omega arith
+    go false false = omega arith
 
 -- The rules, from the first on.
 module _ (t : Table) where

@@ -13,7 +13,6 @@ use Rattle.queue.specs.Slots.{keyOf}
 use Rattle.queue.specs.Order.{All, none, more, Le, Ordered, empty, front, one, count}
 use Rattle.queue.specs.Checked.{first-le, le-all}
 use Rattle.rules.specs.Sizes.{taskCount}
-use Rattle.rules.specs.Table.{queueCount}
 use Rattle.rules.specs.Sound.{once}
 use Rattle.rules.specs.Decides.{Decides, equals, at-most, fails, either, both}
 use Rattle.why.specs.Tests.{mayStand}
@@ -78,16 +77,16 @@ module _ (keys : List ℕ) (x y : ℕ) where
   unfolding mayStand
   stand-both n m d e = rw (ne-eqb y 0 n, ne-eqb x 0 m, d, e)
 
--- ---- the records of the rules on queues
+-- ---- the records of the rules on queues, and of those on messages: 32 slots each
 
-pub at-queue : (q j : ℕ) → j < taskCount → (q * taskCount + j) / taskCount ≡ q
+at-queue : (q j : ℕ) → j < taskCount → (q * taskCount + j) / taskCount ≡ q
 at-queue q j h = omega arith
 
-pub at-slot : (q j : ℕ) → j < taskCount → (q * taskCount + j) % taskCount ≡ j
+at-slot : (q j : ℕ) → j < taskCount → (q * taskCount + j) % taskCount ≡ j
 at-slot q j h = omega arith
 
--- What holds of each record holds of each slot of each queue.
-pub each-slot : (P : ℕ → ℕ → Type 0) → ((n : ℕ) → n < queueCount * taskCount → P (n / taskCount) (n % taskCount)) → (q : ℕ) → q < queueCount → (j : ℕ) → j < taskCount → P q j
-each-slot P h q a j b =
+-- What holds of each record holds of each slot of each of the queues, or of each of the channels' rows.
+pub each-slot : (rows : ℕ) (P : ℕ → ℕ → Type 0) → ((n : ℕ) → n < rows * taskCount → P (n / taskCount) (n % taskCount)) → (q : ℕ) → q < rows → (j : ℕ) → j < taskCount → P q j
+each-slot rows P h q a j b =
     subst (λ (k : ℕ). P q k) (at-slot q j b)
     (subst (λ (k : ℕ). P k ((q * taskCount + j) % taskCount)) (at-queue q j b) (h (q * taskCount + j) (omega arith)))

@@ -8,7 +8,7 @@ use native.Mathlib.Omega.{arith}
 use lib.Dec.{eqb, ltb, leb}
 use borrow.Author.Tests.{ne-eqb, le-ltb, ltb-true, leb-true}
 use Rattle.rules.specs.Table.{Table}
-use Rattle.why.specs.Tests.{Test, rangeTests, taskTests, objectTests, groupTests, waitTests, holderTests, queueTests, workTests, singleTests, keptIn, isKept}
+use Rattle.why.specs.Tests.{Test, rangeTests, taskTests, objectTests, groupTests, channelTests, messageTests, waitTests, holderTests, queueTests, workTests, singleTests, keptIn, isKept}
 
 -- So it is of each test of the list.
 pub data Every (P : Test → Type 0) : List Test → Type 0 where
@@ -78,8 +78,14 @@ fromHolders = holderTests ++ fromQueues
 abbrev fromWaits : List Test
 fromWaits = waitTests ++ fromHolders
 
+abbrev fromMessages : List Test
+fromMessages = messageTests ++ fromWaits
+
+abbrev fromChannels : List Test
+fromChannels = channelTests ++ fromMessages
+
 abbrev fromGroups : List Test
-fromGroups = groupTests ++ fromWaits
+fromGroups = groupTests ++ fromChannels
 
 abbrev fromObjects : List Test
 fromObjects = objectTests ++ fromGroups
@@ -104,13 +110,21 @@ module _ (c i : ℕ) (t : Table) where
   unfolding areAll
   past-objects o = past-tasks (omega arith) ∙ kept-behind c i t objectTests fromGroups (all-below 0x40 _ o refl)
 
-  past-groups : 0x80 ≤ c → isKept c i t ≡ keptIn fromWaits c i t
+  past-groups : 0x50 ≤ c → isKept c i t ≡ keptIn fromChannels c i t
   unfolding areAll
-  past-groups o = past-objects (omega arith) ∙ kept-behind c i t groupTests fromWaits (all-below 0x80 _ o refl)
+  past-groups o = past-objects (omega arith) ∙ kept-behind c i t groupTests fromChannels (all-below 0x50 _ o refl)
+
+  past-channels : 0x55 ≤ c → isKept c i t ≡ keptIn fromMessages c i t
+  unfolding areAll
+  past-channels o = past-groups (omega arith) ∙ kept-behind c i t channelTests fromMessages (all-below 0x55 _ o refl)
+
+  past-messages : 0x80 ≤ c → isKept c i t ≡ keptIn fromWaits c i t
+  unfolding areAll
+  past-messages o = past-channels (omega arith) ∙ kept-behind c i t messageTests fromWaits (all-below 0x80 _ o refl)
 
   past-waits : 0x83 ≤ c → isKept c i t ≡ keptIn fromHolders c i t
   unfolding areAll
-  past-waits o = past-groups (omega arith) ∙ kept-behind c i t waitTests fromHolders (all-below 0x83 _ o refl)
+  past-waits o = past-messages (omega arith) ∙ kept-behind c i t waitTests fromHolders (all-below 0x83 _ o refl)
 
   past-holders : 0x90 ≤ c → isKept c i t ≡ keptIn fromQueues c i t
   unfolding areAll
@@ -128,13 +142,21 @@ module _ (c i : ℕ) (t : Table) where
   unfolding areAll
   kept-object o p = past-tasks o ∙ kept-before c i t objectTests fromGroups (all-above 0x40 _ p refl)
 
-  pub kept-group : 0x40 ≤ c → c < 0x80 → isKept c i t ≡ keptIn groupTests c i t
+  pub kept-group : 0x40 ≤ c → c < 0x50 → isKept c i t ≡ keptIn groupTests c i t
   unfolding areAll
-  kept-group o p = past-objects o ∙ kept-before c i t groupTests fromWaits (all-above 0x80 _ p refl)
+  kept-group o p = past-objects o ∙ kept-before c i t groupTests fromChannels (all-above 0x50 _ p refl)
+
+  pub kept-channel : 0x50 ≤ c → c < 0x55 → isKept c i t ≡ keptIn channelTests c i t
+  unfolding areAll
+  kept-channel o p = past-groups o ∙ kept-before c i t channelTests fromMessages (all-above 0x55 _ p refl)
+
+  pub kept-message : 0x55 ≤ c → c < 0x80 → isKept c i t ≡ keptIn messageTests c i t
+  unfolding areAll
+  kept-message o p = past-channels o ∙ kept-before c i t messageTests fromWaits (all-above 0x80 _ p refl)
 
   pub kept-wait : 0x80 ≤ c → c < 0x83 → isKept c i t ≡ keptIn waitTests c i t
   unfolding areAll
-  kept-wait o p = past-groups o ∙ kept-before c i t waitTests fromHolders (all-above 0x83 _ p refl)
+  kept-wait o p = past-messages o ∙ kept-before c i t waitTests fromHolders (all-above 0x83 _ p refl)
 
   pub kept-holder : 0x83 ≤ c → c < 0x90 → isKept c i t ≡ keptIn holderTests c i t
   unfolding areAll

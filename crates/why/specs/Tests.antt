@@ -5,17 +5,18 @@ use Prim.Native.Nat.{ℕ, zero, suc, _+_, _-_}
 use lib.Dec.{eqb, ltb, leb}
 use Rattle.queue.specs.Slots.{keyOf}
 use Rattle.queue.specs.Order.{count}
-use Rattle.rules.specs.Sizes.{taskCount, semaphoreCount, mutexCount, groupCount, lastPriority, mostNested, mostQuantum, mostCount, ticksRound, flagSets, testCount, plain, delayed, waitsFlags, objectDeleted}
-use Rattle.rules.specs.Table.{Table, taskOf, semaphoreOf, mutexOf, groupOf, queueOf, ableQueue, firstIn, slotIn, works, isAble, written}
+use Rattle.rules.specs.Sizes.{taskCount, semaphoreCount, mutexCount, groupCount, channelCount, mostMessages, greatestMessage, lastPriority, mostNested, mostQuantum, mostCount, ticksRound, flagSets, testCount, plain, delayed, waitsFlags, objectDeleted}
+use Rattle.rules.specs.Table.{Table, taskOf, semaphoreOf, mutexOf, groupOf, channelOf, queueOf, ableQueue, firstIn, slotIn, works, isAble, written}
 use Rattle.rules.specs.Move.{freshIn}
 use Rattle.rules.specs.Family.{Family, families, lastState, objectsIn, placeOf}
-use Rattle.rules.specs.Sound.{implies, once, eachOf, marksIn, asksIn, isNoTask, isNoSemaphore, isNoMutex, isNoGroup}
+use Rattle.rules.specs.Sound.{implies, once, eachOf, marksIn, asksIn, isNoTask, isNoSemaphore, isNoMutex, isNoGroup, isNoChannel}
 use Rattle.rules.specs.declared.Task.{Task}
 use Rattle.rules.specs.declared.Semaphore.{Semaphore}
 use Rattle.rules.specs.declared.Mutex.{Mutex}
 use Rattle.rules.specs.declared.Group.{Group}
+use Rattle.rules.specs.declared.Channel.{Channel}
 use Rattle.why.specs.declared.Reason.{Reason}
-use Rattle.why.specs.Broken.{recordCount, queueAt, slotAt}
+use Rattle.why.specs.Broken.{recordCount, queueAt, slotAt, messageCount, channelAt, messageAt, messageIn}
 
 -- A rule: its number; how many records it is asked of, numbered from 0; and whether the one with the number i keeps it.
 pub record Test : Type 0 where
@@ -37,6 +38,9 @@ ofMutex rule keeps = record { rule = rule; count = mutexCount; keeps = λ t i. k
 abbrev pub ofGroup : ℕ → (Group → Bool) → Test
 ofGroup rule keeps = record { rule = rule; count = groupCount; keeps = λ t i. keeps (groupOf t i) }
 
+abbrev pub ofChannel : ℕ → (Channel → Bool) → Test
+ofChannel rule keeps = record { rule = rule; count = channelCount; keeps = λ t i. keeps (channelOf t i) }
+
 -- There is one record, with the number 0.
 abbrev pub single : ℕ → (Table → Bool) → Test
 single rule keeps = record { rule = rule; count = 1; keeps = λ t i. keeps t }
@@ -57,6 +61,7 @@ rangeTests =
     ∷ ofTask 0x0C (λ k. ltb (k .mask) (asksIn (k .state) flagSets))
     ∷ ofTask 0x0D (λ k. ltb (k .test) (asksIn (k .state) testCount))
     ∷ ofTask 0x0E (λ k. ltb (k .consume) (asksIn (k .state) 2))
+    ∷ ofTask 0x0F (λ k. leb (k .message) greatestMessage)
     ∷ []
 
 abbrev pub taskTests : List Test
@@ -87,6 +92,21 @@ groupTests =
     ofGroup 0x40 (λ x. leb (x .used) 1)
     ∷ ofGroup 0x41 (λ x. ltb (x .flags) flagSets)
     ∷ ofGroup 0x42 (λ x. implies (eqb (x .used) 0) (isNoGroup x))
+    ∷ []
+
+abbrev pub channelTests : List Test
+channelTests =
+    ofChannel 0x50 (λ x. leb (x .used) 1)
+    ∷ ofChannel 0x51 (λ x. leb (x .capacity) mostMessages)
+    ∷ ofChannel 0x52 (λ x. leb (x .held) (x .capacity))
+    ∷ ofChannel 0x53 (λ x. implies (eqb (x .used) 0) (isNoChannel x))
+    ∷ ofChannel 0x54 (λ x. implies (eqb (x .used) 1) (leb 1 (x .capacity)))
+    ∷ []
+
+abbrev pub messageTests : List Test
+messageTests =
+    record { rule = 0x55; count = messageCount; keeps = λ t n. leb (messageIn n t) greatestMessage }
+    ∷ record { rule = 0x56; count = messageCount; keeps = λ t n. implies (leb (channelOf t (channelAt n) .held) (messageAt n)) (eqb (messageIn n t) 0) }
     ∷ []
 
 -- The family of the object that task i waits for passes, where it waits for one.
@@ -154,7 +174,7 @@ singleTests =
     ∷ []
 
 abbrev pub tests : List Test
-tests = rangeTests ++ (taskTests ++ (objectTests ++ (groupTests ++ (waitTests ++ (holderTests ++ (queueTests ++ (workTests ++ singleTests)))))))
+tests = rangeTests ++ (taskTests ++ (objectTests ++ (groupTests ++ (channelTests ++ (messageTests ++ (waitTests ++ (holderTests ++ (queueTests ++ (workTests ++ singleTests)))))))))
 
 -- ---- whether a rule is kept
 
@@ -173,7 +193,7 @@ abbrev pub ruleEnd : ℕ
 ruleEnd = 0xC0
 
 unfoldable pub recordEnd : ℕ → ℕ
-recordEnd c = cond (leb 0x90 c && ltb c 0xA0) recordCount taskCount
+recordEnd c = cond (leb 0x90 c && ltb c 0xA0) recordCount (cond (leb 0x55 c && ltb c 0x60) messageCount taskCount)
 
 -- The least of the n numbers from i on that fails; i + n where none does.
 unfoldable pub least : (n i : ℕ) → (ℕ → Bool) → ℕ

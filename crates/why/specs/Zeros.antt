@@ -34,7 +34,8 @@ isWaitZero k =
     && (eqb (k .outcome) 0
     && (eqb (k .mask) 0
     && (eqb (k .test) 0
-    && eqb (k .consume) 0)))))
+    && (eqb (k .consume) 0
+    && eqb (k .message) 0))))))
 
 joined : (a b c d e f w : Bool) → (a && (b && (c && (d && (e && f))))) && w ≡ a && (b && (c && (d && (e && (f && w)))))
 joined false b c d e f w = refl

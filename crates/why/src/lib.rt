@@ -3,6 +3,7 @@ ghost use mathlib.Core.Path.{_≡_};
 ghost use Rattle.table.specs.Image.{Image, view};
 ghost use Rattle.why.specs.Tests.{isKept, recordEnd, firstAt, whyOf};
 
+mod channels;
 mod objects;
 mod queues;
 mod singles;
@@ -33,8 +34,14 @@ fn is_kept(s: &[u8], rule: u32, i: usize) -> bool
     if rule < 0x40 {
         return objects::is_right(s, rule, i);
     }
-    if rule < 0x80 {
+    if rule < 0x50 {
         return objects::is_group_right(s, rule, i);
+    }
+    if rule < 0x55 {
+        return channels::is_right(s, rule, i);
+    }
+    if rule < 0x80 {
+        return channels::is_message_right(s, rule, i);
     }
     if rule < 0x83 {
         return waits::is_right(s, rule, i);
@@ -57,6 +64,9 @@ fn record_end(rule: u32) -> usize
 {
     if (0x90 <= rule) & (rule < 0xA0) {
         return queues::RECORDS;
+    }
+    if (0x55 <= rule) & (rule < 0x60) {
+        return channels::MESSAGES;
     }
     32
 }

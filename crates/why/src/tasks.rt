@@ -24,6 +24,9 @@ fn objects_in(state: u8) -> u8
     if state == 4 {
         return 8;
     }
+    if state == 5 {
+        return 16;
+    }
     1
 }
 
@@ -61,7 +64,7 @@ pub fn is_in_range(s: &[u8], rule: u32, i: usize) -> bool
         0x04 => tasks::get_suspend(s, i) <= 250,
         0x05 => (tasks::get_quantum(s, i) as u32) <= 65535,
         0x06 => (tasks::get_left(s, i) as u32) <= 65535,
-        0x07 => tasks::get_state(s, i) <= 4,
+        0x07 => tasks::get_state(s, i) <= 5,
         0x08 => tasks::get_object(s, i) < objects_in(tasks::get_state(s, i)),
         0x09 => tasks::get_marked(s, i) <= 1,
         0x0A => (tasks::get_due(s, i) as u64) < marks_in(tasks::get_marked(s, i)),
@@ -69,11 +72,12 @@ pub fn is_in_range(s: &[u8], rule: u32, i: usize) -> bool
         0x0C => (tasks::get_mask(s, i) as u64) < asks_in(tasks::get_state(s, i), 4294967296),
         0x0D => (tasks::get_test(s, i) as u64) < asks_in(tasks::get_state(s, i), 4),
         0x0E => (tasks::get_consume(s, i) as u64) < asks_in(tasks::get_state(s, i), 2),
+        0x0F => tasks::get_message(s, i) <= 4294967295,
         _ => true,
     }
 }
 
-// Whether the fields of a wait are 0.
+// Whether the fields of a wait are 0, and the message that one gave.
 fn is_wait_zero(s: &[u8], i: usize) -> bool
     requires { ⌜ (i < taskCount) × Image (now s) ⌝ }
     ensures { λ r. ⌜ r ≡ isWaitZero (taskOf (view (now (s .entry))) i) ⌝ }
@@ -85,7 +89,8 @@ fn is_wait_zero(s: &[u8], i: usize) -> bool
     let mask = tasks::get_mask(s, i);
     let test = tasks::get_test(s, i);
     let consume = tasks::get_consume(s, i);
-    let asked = (mask == 0) & ((test == 0) & (consume == 0));
+    let message = tasks::get_message(s, i);
+    let asked = (mask == 0) & ((test == 0) & ((consume == 0) & (message == 0)));
     (object == 0) & ((marked == 0) & ((due == 0) & ((outcome == 0) & asked)))
 }
 

@@ -4,9 +4,10 @@ ghost use mathlib.Core.Bool.{not};
 ghost use Prim.Native.Nat.{_<_};
 ghost use lib.Dec.{eqb, ltb};
 ghost use Rattle.rules.specs.Sizes.{taskCount, mutexCount};
-ghost use Rattle.rules.specs.Table.{semaphoreOf, mutexOf};
+ghost use Rattle.rules.specs.Table.{semaphoreOf, mutexOf, channelOf};
 ghost use Rattle.table.specs.Image.{Image, view};
 ghost use Rattle.why.specs.Tests.{keptIn, waitTests, holderTests, isObjectUsed, offersNothing, isApart, isHolderUsed};
+use table::channels;
 use table::groups;
 use table::mutexes;
 use table::semaphores;
@@ -27,6 +28,9 @@ fn is_used(s: &[u8], i: usize) -> bool
     }
     if state == 4 {
         return groups::used_at(s, object) == 1;
+    }
+    if state == 5 {
+        return channels::used_at(s, object) == 1;
     }
     true
 }
@@ -51,6 +55,16 @@ fn is_held(s: &[u8], o: usize) -> bool
     mutexes::get_holder(s, o) != 0
 }
 
+fn has_no_message(s: &[u8], o: usize) -> bool
+    requires { ⌜ Image (now s) ⌝ }
+    ensures { λ r. ⌜ r ≡ not (ltb 0 (channelOf (view (now (s .entry))) o .held)) ⌝ }
+{
+    if 16 <= o {
+        return true;
+    }
+    !(0 < channels::get_held(s, o))
+}
+
 // It has nothing to take.
 fn has_nothing(s: &[u8], i: usize) -> bool
     requires { ⌜ (i < taskCount) × Image (now s) ⌝ }
@@ -63,6 +77,9 @@ fn has_nothing(s: &[u8], i: usize) -> bool
     }
     if state == 3 {
         return is_held(s, object);
+    }
+    if state == 5 {
+        return has_no_message(s, object);
     }
     true
 }

@@ -1,5 +1,5 @@
 //! The calls: who serves each, and what several of them share.
-use super::{Call, Kernel, Outcome, Place, TASKS};
+use super::{Call, Kernel, Outcome, Place, NUMBERS, TASKS};
 
 /// Answer 0 or 14, or the number of the refusal.
 pub type Answer = Result<u32, u32>;
@@ -23,7 +23,8 @@ pub fn yes_no(n: u32) -> Result<bool, u32> {
 impl Kernel {
     /// One call on a sound table. "0 and 14 alone change anything."
     pub fn step(&mut self, call: Call) -> Outcome {
-        let answer = match self.serve(call) {
+        let mut further = 0;
+        let answer = match self.serve(call, &mut further) {
             Ok(done) => {
                 // "Last, at depth 0, the first able task runs."
                 if self.depth == 0 {
@@ -33,17 +34,17 @@ impl Kernel {
             }
             Err(refused) => refused,
         };
-        Outcome { answer, runs: self.running }
+        Outcome { answer, runs: self.running, further }
     }
 
     /// "Order: 15, 5, 6, 1, 2 or 3, 4, then those of the call"
-    fn serve(&mut self, call: Call) -> Answer {
-        let [a, b, c, d, e, f] = call.numbers;
+    fn serve(&mut self, call: Call, further: &mut u32) -> Answer {
+        let [a, b, c, ..] = call.numbers;
         let interrupt = call.kind & 0x80 != 0;
         let kind = call.kind & 0x7F;
         // "5: made by an interrupt, and not a tick or a semaphore post"; of flags "a post by an interrupt no
-        // longer 5"
-        refuse(interrupt && kind != 0x0B && kind != 0x13 && kind != 0x33, 5)?;
+        // longer 5", of messages "a post by an interrupt is not refused with 5"
+        refuse(interrupt && kind != 0x0B && kind != 0x13 && kind != 0x33 && kind != 0x43, 5)?;
         match kind {
             0x01 => self.task_create(a, b, c),
             0x02 => self.task_delete(a),
@@ -57,6 +58,13 @@ impl Kernel {
             0x0A => self.unlock(),
             0x0B => self.tick_call(),
             0x0D => self.set_default_quantum(a),
+            _ => self.serve_object(kind, call.numbers, further),
+        }
+    }
+
+    fn serve_object(&mut self, kind: u8, numbers: [u32; NUMBERS], further: &mut u32) -> Answer {
+        let [a, b, c, d, e, f] = numbers;
+        match kind {
             0x10 => self.semaphore_create(a, b),
             0x11 => self.semaphore_delete(a, b),
             0x12 => self.semaphore_wait(a, b, c),
@@ -72,12 +80,19 @@ impl Kernel {
             0x32 => self.group_wait(a, b, c, d, e, f),
             0x33 => self.group_post(a, b, c),
             0x34 => self.group_abort(a),
+            0x40 => self.channel_create(a, b),
+            0x41 => self.channel_delete(a, b),
+            0x42 => self.channel_wait(a, b, c),
+            0x43 => self.channel_post(a, b, c),
+            0x44 => self.channel_abort(a),
+            0x45 => self.channel_flush(a, further),
             // "1: [..] (port only) a call kind that the tape's list lacks"
             _ => Err(1),
         }
     }
 
-    /// "6: yield, delay, semaphore or mutex wait, mutex post: none is running"; of flags "6 (a wait)"
+    /// "6: yield, delay, semaphore or mutex wait, mutex post: none is running"; of flags "6 (a wait)"; of messages
+    /// "Wait [..] as for semaphores"
     pub(super) fn caller(&self) -> Result<usize, u32> {
         self.running.ok_or(6)
     }

@@ -2,7 +2,7 @@
 use super::{Call, NUMBERS};
 
 /// The kinds of the tape's list with the bytes of each number in the body.
-pub const KINDS: [(u8, &str, &[usize]); 27] = [
+pub const KINDS: [(u8, &str, &[usize]); 33] = [
     (0x01, "task create", &[1, 1, 2]),
     (0x02, "task delete", &[1]),
     (0x03, "change priority", &[1, 1]),
@@ -30,6 +30,12 @@ pub const KINDS: [(u8, &str, &[usize]); 27] = [
     (0x32, "group wait", &[1, 1, 4, 4, 1, 1]),
     (0x33, "group post", &[1, 4, 1]),
     (0x34, "group abort", &[1]),
+    (0x40, "channel create", &[1, 1]),
+    (0x41, "channel delete", &[1, 1]),
+    (0x42, "channel wait", &[1, 1, 4]),
+    (0x43, "channel post", &[1, 4, 1]),
+    (0x44, "channel abort", &[1]),
+    (0x45, "channel flush", &[1]),
 ];
 
 /// The widths of a kind's numbers on the tape; none for an unknown kind. "Kind plus 80h: made by an

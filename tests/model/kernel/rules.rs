@@ -1,8 +1,8 @@
 //! The standing rules.
-use super::{Kernel, Place, State, Task, Wanted, LAST_PRIORITY, MOST, TASKS};
+use super::{Channel, Kernel, Place, State, Task, Wanted, LAST_PRIORITY, MOST, MOST_MESSAGES, TASKS};
 
 /// The names of the standing rules, in the paper's order; the first is of the image alone.
-pub const RULES: [&str; 20] = [
+pub const RULES: [&str; 21] = [
     "the image shows a table",
     "fields in range",
     "free: zero fields",
@@ -18,6 +18,7 @@ pub const RULES: [&str; 20] = [
     "holder in use",
     "holder does not wait for what it holds",
     "semaphore with a waiter: count 0",
+    "channel with a waiter: no message",
     "marks fit the states",
     "no mark equals the tick counter",
     "left at most the quantum",
@@ -49,6 +50,7 @@ impl Kernel {
             self.mutexes.iter().all(|m| m.holder.map_or(true, |t| self.tasks[t].used)),
             self.no_own_wait(),
             self.semaphores.iter().all(|s| s.queue.is_empty() || s.count == 0),
+            self.channels.iter().all(|c| c.queue.is_empty() || c.messages.is_empty()),
             self.marks_fit(),
             self.tasks.iter().all(|task| task.mark != Some(self.tick)),
             self.tasks.iter().all(|task| task.left <= task.quantum),
@@ -67,7 +69,8 @@ impl Kernel {
             .all(|t| priority(t.base) && priority(t.working) && t.suspends <= MOST && t.outcome <= 3);
         let no_mask = |t: &Task| matches!(t.state, State::Flags(_, Wanted { mask: 0, .. }));
         let numbers = self.default_quantum > 0 && self.depth <= MOST;
-        tasks && !self.tasks.iter().any(no_mask) && self.mutexes.iter().all(|m| m.nesting <= MOST) && numbers
+        let objects = self.mutexes.iter().all(|m| m.nesting <= MOST) && self.channels.iter().all(channel_in_range);
+        tasks && !self.tasks.iter().any(no_mask) && objects && numbers
     }
 
     /// "a free number has zero fields"
@@ -76,6 +79,7 @@ impl Kernel {
             && self.semaphores.iter().all(|s| s.used || s.count == 0)
             && self.mutexes.iter().all(|m| m.used || (m.holder.is_none() && m.nesting == 0))
             && self.groups.iter().all(|g| g.used || g.flags == 0)
+            && self.channels.iter().all(|c| c.used || (c.capacity == 0 && c.messages.is_empty()))
     }
 
     /// "a free number has [..] no queue and no place in a queue"
@@ -84,6 +88,7 @@ impl Kernel {
             && self.semaphores.iter().all(|s| s.used || s.queue.is_empty())
             && self.mutexes.iter().all(|m| m.used || m.queue.is_empty())
             && self.groups.iter().all(|g| g.used || g.queue.is_empty())
+            && self.channels.iter().all(|c| c.used || c.queue.is_empty())
     }
 
     /// "The able queue holds each able task once and nothing else; each object's queue holds each of its
@@ -100,6 +105,7 @@ impl Kernel {
             State::Semaphore(s) => self.semaphores[s].used,
             State::Mutex(m) => self.mutexes[m].used,
             State::Flags(g, _) => self.groups[g].used,
+            State::Channel(c) => self.channels[c].used,
             _ => true,
         })
     }
@@ -143,4 +149,10 @@ impl Kernel {
             self.running.map_or(true, |t| self.is_able(t))
         }
     }
+}
+
+/// "up to 32 messages [..], the capacity 1 to 32 fixed at creation": no more messages than that.
+fn channel_in_range(channel: &Channel) -> bool {
+    let (capacity, least) = (usize::from(channel.capacity), usize::from(channel.used));
+    (least..=MOST_MESSAGES).contains(&capacity) && channel.messages.len() <= capacity
 }

@@ -21,6 +21,7 @@ impl Kernel {
             state: State::Plain,
             mark: None,
             outcome: 0,
+            message: 0,
         };
         self.enter_if_able(t);
         Ok(0)

@@ -12,4 +12,5 @@ let-in-spec =
     (λ c. rw (c .match .keys1))
     (λ c. rw (c .match .keys2))
     (λ c. rw (c .match .keys3))
-    (λ c. let-in-else (c .before .args .kind) (search needs) (search needs) (search needs)))
+    (λ c. rw (c .match .keys4))
+    (λ c. let-in-else (c .before .args .kind) (search needs) (search needs) (search needs) (search needs)))

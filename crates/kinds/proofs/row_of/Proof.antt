@@ -43,8 +43,20 @@ row-of-spec =
     (λ c. rw (c .match .keys25))
     (λ c. rw (c .match .keys26))
     (λ c. rw (c .match .keys27))
+    (λ c. rw (c .match .keys28))
+    (λ c. rw (c .match .keys29))
+    (λ c. rw (c .match .keys30))
+    (λ c. rw (c .match .keys31))
+    (λ c. rw (c .match .keys32))
+    (λ c. rw (c .match .keys33))
     (λ c.
-    let z27 = c .match .rest in
+    let z33 = c .match .rest in
+    let z32 = z33 .0 in
+    let z31 = z32 .0 in
+    let z30 = z31 .0 in
+    let z29 = z30 .0 in
+    let z28 = z29 .0 in
+    let z27 = z28 .0 in
     let z26 = z27 .0 in
     let z25 = z26 .0 in
     let z24 = z25 .0 in
@@ -71,4 +83,4 @@ row-of-spec =
     let z3 = z4 .0 in
     let z2 = z3 .0 in
     let z1 = z2 .0 in
-    row-none (c .before .args .k) (c .before .args .t2) (with (z1 .1) (with (z2 .1) (with (z3 .1) (with (z4 .1) (with (z5 .1) (with (z6 .1) (with (z7 .1) (with (z8 .1) (with (z9 .1) (with (z10 .1) (with (z11 .1) (with (z12 .1) (with (z13 .1) (with (z14 .1) (with (z15 .1) (with (z16 .1) (with (z17 .1) (with (z18 .1) (with (z19 .1) (with (z20 .1) (with (z21 .1) (with (z22 .1) (with (z23 .1) (with (z24 .1) (with (z25 .1) (with (z26 .1) (with (z27 .1) end)))))))))))))))))))))))))))))
+    row-none (c .before .args .k) (c .before .args .t2) (with (z1 .1) (with (z2 .1) (with (z3 .1) (with (z4 .1) (with (z5 .1) (with (z6 .1) (with (z7 .1) (with (z8 .1) (with (z9 .1) (with (z10 .1) (with (z11 .1) (with (z12 .1) (with (z13 .1) (with (z14 .1) (with (z15 .1) (with (z16 .1) (with (z17 .1) (with (z18 .1) (with (z19 .1) (with (z20 .1) (with (z21 .1) (with (z22 .1) (with (z23 .1) (with (z24 .1) (with (z25 .1) (with (z26 .1) (with (z27 .1) (with (z28 .1) (with (z29 .1) (with (z30 .1) (with (z31 .1) (with (z32 .1) (with (z33 .1) end)))))))))))))))))))))))))))))))))))

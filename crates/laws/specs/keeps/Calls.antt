@@ -16,7 +16,7 @@ use Rattle.rules.specs.Mutex as mutex
 use Rattle.rules.specs.Kinds.{spelled}
 use Rattle.rules.specs.Step.{changeBy, Bounded}
 use Rattle.rules.specs.declared.Call.{Call}
-use Rattle.rules.specs.declared.Call.the-variants.{TaskCreate, TaskDelete, ChangePriority, Suspend, Resume, Yield, Delay, DelayResume, Lock, Unlock, Tick, SetDefaultQuantum, SemaphoreCreate, SemaphoreDelete, SemaphoreWait, SemaphorePost, SemaphoreAbort, MutexCreate, MutexDelete, MutexWait, MutexPost, MutexAbort, GroupCreate, GroupDelete, GroupWait, GroupPost, GroupAbort}
+use Rattle.rules.specs.declared.Call.the-variants.{TaskCreate, TaskDelete, ChangePriority, Suspend, Resume, Yield, Delay, DelayResume, Lock, Unlock, Tick, SetDefaultQuantum, SemaphoreCreate, SemaphoreDelete, SemaphoreWait, SemaphorePost, SemaphoreAbort, MutexCreate, MutexDelete, MutexWait, MutexPost, MutexAbort, GroupCreate, GroupDelete, GroupWait, GroupPost, GroupAbort, ChannelCreate, ChannelDelete, ChannelWait, ChannelPost, ChannelAbort, ChannelFlush}
 use Rattle.laws.specs.keeps.Becomes.{caller-used}
 use Rattle.laws.specs.keeps.Running.{may-run-on, depth-runs}
 use Rattle.laws.specs.keeps.Ending.{ticked-keeps}
@@ -29,11 +29,12 @@ use Rattle.laws.specs.numbers.Presumes.{Presumes}
 use Rattle.laws.specs.queues.Rows.{among-semaphores, among-mutexes, among-groups}
 use Rattle.laws.specs.queues.Stands.{no-queue}
 use Rattle.laws.specs.keeps.Objects.{unheld-right}
-use Rattle.laws.specs.keeps.Families.{mutex-unwaited, semaphores-lawful, mutexes-lawful, groups-lawful, abort-keeps, delete-keeps}
+use Rattle.laws.specs.keeps.Families.{mutex-unwaited, semaphores-lawful, mutexes-lawful, groups-lawful, channels-lawful, abort-keeps, delete-keeps}
 use Rattle.laws.specs.keeps.Caller.{midway, caller-task, runs-able}
 use Rattle.laws.specs.keeps.Semaphore as semaphore-call
 use Rattle.laws.specs.keeps.Mutex as mutex-call
 use Rattle.laws.specs.keeps.Group as group-call
+use Rattle.laws.specs.keeps.Channel as channel-call
 
 module _ {t : Table} (s : Sound t) where
   pub change-keeps : (c : Call) → Bounded c → Presumes c t → BeforeChoice (changeBy c t)
@@ -123,3 +124,9 @@ module _ {t : Table} (s : Sound t) where
       group-call.wait-keeps s g l u limit mask test consume (b 2) (b 3) some kind eats c free
   change-keeps (GroupPost g mask on) b (l, u) = group-call.post-keeps s g l u mask on (b 1)
   change-keeps (GroupAbort g) b (l, some) = abort-keeps groups-lawful (midway s) g l some
+  change-keeps (ChannelCreate o capacity) b ((l, u), some, most) = channel-call.create-keeps s o l capacity u (omega arith) most
+  change-keeps (ChannelDelete o force) b l = delete-keeps channels-lawful (midway s) o l
+  change-keeps (ChannelWait o block limit) b (c, l, u, free) = channel-call.wait-keeps s o l u limit (b 2) c free
+  change-keeps (ChannelPost o message front) b (l, u, room, byte) = channel-call.post-keeps s o l u message front (omega (arith, b 1)) room
+  change-keeps (ChannelAbort o) b (l, some) = abort-keeps channels-lawful (midway s) o l some
+  change-keeps (ChannelFlush o) b (l, u) = channel-call.flush-keeps s o l u

@@ -1,32 +1,48 @@
 -- One object stored, and the calls that every family of objects has: they keep all the groups. What a family must bring is `Lawful`.
-use mathlib.Core.Path.{_≡_, refl}
+use mathlib.Core.Path.{_≡_, refl, sym, ap, subst}
 use mathlib.Core.Logic.{_≢_}
 use mathlib.Core.Bool.{true}
-use Prim.Native.Nat.{ℕ, _-_, _≤_, _<_}
+use mathlib.Core.List.{List, []}
+use Prim.Native.Nat.{ℕ, _-_, _<_}
 use native.Mathlib.Omega.{arith}
-use lib.ListN.{length-set}
-use Rattle.rules.specs.Sizes.{taskCount, semaphoreCount, mutexCount, groupCount, ticksRound, delayed, waitsMutex, waitsFlags, aborted}
-use Rattle.rules.specs.Table.{Table, Asked, taskOf, semaphoreQueue, mutexQueue, groupQueue, firstIn, isAble, withSemaphore, withMutex, withGroup, holderOf}
+use lib.ListN.{length}
+use lib.Seq.{set-set}
+use Rattle.rules.specs.Sizes.{taskCount, semaphoreCount, mutexCount, groupCount, channelCount, ticksRound, waitsMutex, waitsFlags, waitsMessage, aborted}
+use Rattle.rules.specs.Table.{Table, Asked, taskOf, channelOf, rowOf, semaphoreQueue, mutexQueue, groupQueue, channelQueue, firstIn, isAble, noChannel, withHeld, withSemaphore, withMutex, withGroup, withChannels, withChannel, withRow, holderOf}
+use Rattle.rules.specs.Messages.{laid, greater, holding}
 use Rattle.rules.specs.Move.{next}
-use Rattle.rules.specs.Sound.{Empty, SoundSemaphore, SoundMutex, SoundGroup, MayWait, SoundWithin}
+use Rattle.rules.specs.Sound.{Empty, SoundSemaphore, SoundMutex, SoundGroup, SoundChannel, MayWait, SoundWithin}
 use Rattle.rules.specs.Time.{callerOf}
-use Rattle.rules.specs.Family.{Family, waitersOf, semaphores, mutexes, groups, families, Among}
+use Rattle.rules.specs.Family.{Family, waitersOf, semaphores, mutexes, groups, channels, families, Among}
 use Rattle.rules.specs.Object.{blocked, waits, abort, objectAbort, objectDelete}
 use Rattle.rules.specs.declared.Semaphore.{Semaphore}
 use Rattle.rules.specs.declared.Mutex.{Mutex}
 use Rattle.rules.specs.declared.Group.{Group}
+use Rattle.rules.specs.declared.Channel.{Channel}
 use Rattle.laws.specs.queues.Put.{sized}
+use Rattle.laws.specs.queues.Shapes.{semaphore-shaped, mutex-shaped, group-shaped, channel-shaped, row-shaped}
 use Rattle.laws.specs.chains.Graph.{Alike, waits-task, unwaited-alike}
 use Rattle.laws.specs.chains.Priorities.{blocked-worked}
 use Rattle.laws.specs.keeps.Becomes.{caller, caller-used}
 use Rattle.laws.specs.keeps.Records.{MayAsk, limited-right, limited-used, limited-later}
-use Rattle.laws.specs.queues.Rows.{among-semaphores, among-mutexes, among-groups, waiting, known, numbers, first-queue, last-queue}
+use Rattle.laws.specs.queues.Rows.{among-semaphores, among-mutexes, among-groups, among-channels, waiting, known, numbers, first-queue, last-queue}
 use Rattle.laws.specs.queues.Stands.{unwaited}
-use Rattle.laws.specs.keeps.Objects.{one-wait, HeldApart, semaphore-objects, mutex-objects, group-objects}
+use Rattle.laws.specs.keeps.Messages.{laid-length, anew-free}
+use Rattle.laws.specs.keeps.Objects.{one-wait, HeldApart, Awaited, semaphore-objects, mutex-objects, group-objects, channel-objects}
 use Rattle.laws.specs.keeps.Ending.{first-waiter, emptied-all}
 use Rattle.laws.specs.keeps.Moves.{BeforeChoice, put-walk-keeps, Waiter, ended-keeps, Stores, stores-keeps}
 
 -- ---- objects stored
+
+-- A channel that goes is stored once.
+gone-is : (c : ℕ) (t : Table) → channels .gone c t ≡ withRow c (laid (greater (channelOf t c .held) 0) [] (rowOf t c)) (withChannel c noChannel t)
+unfolding holding
+gone-is c t = ap (λ (x : List Channel). withRow c (laid (greater (channelOf t c .held) 0) [] (rowOf t c)) (withChannels x t)) (set-set (t .channels) c (withHeld 0 (channelOf t c)) noChannel)
+
+-- What leaves tasks and mutexes as they are makes no task wait for another.
+no-chain-moves : {t u : Table} → u .tasks ≡ t .tasks → u .mutexes ≡ t .mutexes → Alike t u
+unfolding next holderOf
+no-chain-moves a b = record { nexts = λ j. rw (a, b); bases = λ j. rw a; works = λ j. rw a }
 
 module _ {t : Table} (s : SoundWithin t) where
   -- A mutex: whoever waits for it may go on waiting, and its holder is in use.
@@ -35,7 +51,7 @@ module _ {t : Table} (s : SoundWithin t) where
       → (x .holder ≢ 0 → taskOf t (x .holder - 1) .used ≡ 1)
       → Stores t (withMutex m x t)
   mutex-stores m x right waited uses =
-      record { tasks = refl; queues = refl; semaphores = refl; mutexes = length-set (t .mutexes) m x; groups = refl; frames = refl; objects = mutex-objects m x (s .objects) right waited uses }
+      record { tasks = refl; queues = refl; shaped = mutex-shaped (s .queued .shaped) m x; frames = refl; objects = mutex-objects m x (s .objects) right waited uses }
 
   -- One for which nobody waits.
   pub mutex-unwaited : (m : ℕ) (x : Mutex) → m < mutexCount → SoundMutex x → (x .holder ≢ 0 → taskOf t (x .holder - 1) .used ≡ 1) → Empty (mutexQueue m) t
@@ -46,39 +62,54 @@ module _ {t : Table} (s : SoundWithin t) where
 
   -- The same of a semaphore, which makes no task wait for another.
   pub semaphore-unwaited : (o : ℕ) (x : Semaphore) → o < semaphoreCount → SoundSemaphore x → Empty (semaphoreQueue o) t → Stores t (withSemaphore o x t) × Alike t (withSemaphore o x t)
-  unfolding next holderOf
   semaphore-unwaited o x l right z = (
     record {
       tasks = refl;
       queues = refl;
-      semaphores = length-set (t .semaphores) o x;
-      mutexes = refl;
-      groups = refl;
+      shaped = semaphore-shaped (s .queued .shaped) o x;
       frames = refl;
       objects = semaphore-objects o x (s .objects) right (λ j k e y. absurd (unwaited among-semaphores (s .queued) o l z j k e y));
     },
-    record { nexts = λ j. refl; bases = λ j. refl; works = λ j. refl },
+    no-chain-moves refl refl,
   )
 
   -- A group: whoever waits for it finds it in use. It makes no task wait for another either.
   pub group-stores : (g : ℕ) (x : Group) → SoundGroup x → ((j : ℕ) → j < taskCount → taskOf t j .state ≡ waitsFlags → taskOf t j .object ≡ g → x .used ≡ 1)
       → Stores t (withGroup g x t) × Alike t (withGroup g x t)
-  unfolding next holderOf
   group-stores g x right waited = (
-    record {
-      tasks = refl;
-      queues = refl;
-      semaphores = refl;
-      mutexes = refl;
-      groups = length-set (t .groups) g x;
-      frames = refl;
-      objects = group-objects g x (s .objects) right waited;
-    },
-    record { nexts = λ j. refl; bases = λ j. refl; works = λ j. refl },
+    record { tasks = refl; queues = refl; shaped = group-shaped (s .queued .shaped) g x; frames = refl; objects = group-objects g x (s .objects) right waited },
+    no-chain-moves refl refl,
   )
 
   pub group-unwaited : (g : ℕ) (x : Group) → g < groupCount → SoundGroup x → Empty (groupQueue g) t → Stores t (withGroup g x t) × Alike t (withGroup g x t)
   group-unwaited g x l right z = group-stores g x right (λ j k e o. absurd (unwaited among-groups (s .queued) g l z j k e o))
+
+  -- A channel and its row: whoever waits for it finds it in use and without a message.
+  module _ (c : ℕ) (l : c < channelCount) where
+    pub channel-stores : (x : Channel) (row : List ℕ) → length row ≡ length (rowOf t c) → SoundChannel x row
+        → ((j : ℕ) → j < taskCount → taskOf t j .state ≡ waitsMessage → taskOf t j .object ≡ c → Awaited (x .used) (x .held))
+        → Stores t (withRow c row (withChannel c x t)) × Alike t (withRow c row (withChannel c x t))
+    channel-stores x row e right waited = (
+      record {
+        tasks = refl;
+        queues = refl;
+        shaped = row-shaped (channel-shaped (s .queued .shaped) c x) c row e;
+        frames = refl;
+        objects = channel-objects (s .queued .shaped) c x row l (s .objects) right waited;
+      },
+      no-chain-moves refl refl,
+    )
+
+    -- Nobody waits for it.
+    pub channel-unwaited : (x : Channel) (row : List ℕ) → length row ≡ length (rowOf t c) → SoundChannel x row → Empty (channelQueue c) t
+        → Stores t (withRow c row (withChannel c x t)) × Alike t (withRow c row (withChannel c x t))
+    channel-unwaited x row e right z = channel-stores x row e right (λ j k a b. absurd (unwaited among-channels (s .queued) c l z j k a b))
+
+    -- It goes, with its messages.
+    pub channel-goes : Empty (channelQueue c) t → Stores t (channels .gone c t) × Alike t (channels .gone c t)
+    channel-goes z =
+        subst (λ (u : Table). Stores t u × Alike t u) (sym (gone-is c t))
+        (channel-unwaited noChannel _ (laid-length (greater (channelOf t c .held) 0) [] (rowOf t c)) (anew-free (s .objects .channels c l) (s .queued .shaped .rows c l)) z)
 
 -- ---- families
 
@@ -114,6 +145,9 @@ groups-lawful =
       chain = λ e. absurd (omega arith);
       goes = λ s g l. group-unwaited s g _ l (record { used = omega arith; flags = omega arith; free = λ e. refl });
     }
+
+pub channels-lawful : Lawful channels
+channels-lawful = record { among = among-channels; chain = λ e. absurd (omega arith); goes = λ s c l. channel-goes s c l }
 
 -- ---- the calls that every family has
 

@@ -1,16 +1,16 @@
 -- What the calls of a group of flags keep that are its own.
-use mathlib.Core.Path.{_≡_, refl, ap, _∙_}
+use mathlib.Core.Path.{_≡_, ap, _∙_}
 use mathlib.Core.Logic.{_≢_}
 use mathlib.Core.Bool.{true}
 use Prim.Native.Nat.{ℕ, zero, suc, _+_, _-_, _≤_, _<_}
 use native.Mathlib.Omega.{arith}
 use lib.Dec.{eqb, ltb}
-use lib.Bits.{bitAnd, bitOr, bitXor, and-lt, or-lt, xor-lt}
+use lib.Bits.{bitAnd, bitOr, and-lt, or-lt, xor-lt}
 use Rattle.rules.specs.Sizes.{taskCount, groupCount, ticksRound, flagSets, testCount, waitsFlags, allClear, given}
 use Rattle.rules.specs.Table.{Table, Asked, asking, taskOf, groupOf, groupQueue, slotIn, askedBy, withFlags}
 use Rattle.rules.specs.Decides.{equals, itself}
 use Rattle.rules.specs.Move.{next}
-use Rattle.rules.specs.Sound.{asksIn, Empty, SoundGroup, Sound}
+use Rattle.rules.specs.Sound.{asksIn, Empty, Sound}
 use Rattle.rules.specs.Group.{meeting, isMet, consumed, turnedOver, posted, woken, flagsOf, withFlagsOf}
 use Rattle.rules.specs.Group as group
 use Rattle.rules.specs.declared.Task.{Task}

@@ -8,13 +8,14 @@ use native.Mathlib.Omega.{arith}
 use lib.ListN.{length}
 use Rattle.rules.specs.Sizes.{taskCount, mutexCount, plain, waitsSemaphore, objectDeleted}
 use Rattle.rules.specs.Afresh.{here}
-use Rattle.rules.specs.Table.{Table, taskOf, mutexOf, isAble, written, withBase, withSuspend, withLeft, withOutcome, holderOf}
+use Rattle.rules.specs.Table.{Table, taskOf, mutexOf, isAble, written, withBase, withSuspend, withLeft, withOutcome, withMessage, holderOf}
 use Rattle.rules.specs.Walk.{walkOn}
 use Rattle.rules.specs.Move.{put, rotate, walk, next, ready, ended}
-use Rattle.rules.specs.Sound.{Each, SoundWait, Sound, SoundTask, SoundQueues, WorkedOut, SoundObjects, SoundNumbers, SoundWithin}
+use Rattle.rules.specs.Sound.{Each, Shaped, SoundWait, Sound, SoundTask, SoundQueues, WorkedOut, SoundObjects, SoundNumbers, SoundWithin}
 use Rattle.rules.specs.declared.Task.{Task}
 use Rattle.laws.specs.queues.Put.{sized, refilled, put-stored, rotate-stored}
 use Rattle.laws.specs.queues.Fields.{rest, frame, framed, put-rest, rotate-rest, walk-rest, ended-rest}
+use Rattle.laws.specs.queues.Shapes.{framed-shaped}
 use Rattle.laws.specs.queues.Queues.{same-queued, put-queued, walk-queued, rotate-queued}
 use Rattle.laws.specs.chains.Graph.{Alike, alike-worked, stored-as, worked-walk}
 use Rattle.laws.specs.chains.Priorities.{ended-worked}
@@ -46,7 +47,7 @@ framed-settled {t} s f numbers =
     let u = framed f t in
     let o = s .objects in
     record {
-      queued = same-queued (s .queued) refl refl refl refl refl;
+      queued = same-queued (s .queued) refl refl (framed-shaped (s .queued .shaped) f);
       worked = s .worked;
       tasks = s .tasks;
       objects =
@@ -54,7 +55,8 @@ framed-settled {t} s f numbers =
             semaphores = o .semaphores;
             mutexes = o .mutexes;
             groups = o .groups;
-            waits = λ i l. waits-like {u = u} i (taskOf t i .state) (taskOf t i .object) refl refl refl (o .waits i l);
+            channels = o .channels;
+            waits = λ i l. waits-like {u = u} i (taskOf t i .state) (taskOf t i .object) refl (o .waits i l);
             holders = o .holders;
           };
       numbers = record { tick = numbers .tick; defaultLeast = numbers .defaultLeast; defaultMost = numbers .defaultMost; depth = numbers .depth };
@@ -83,7 +85,7 @@ pub record MayBecome (n : ℕ) (t : Table) (i : ℕ) (k : Task) : Type 0 where
 
 -- A task but for the fields that bear on no rule of others; its base does, through the working priorities alone.
 abbrev pub seen : Task → Task
-seen k = withBase 0 (withSuspend 0 (withLeft 0 (withOutcome 0 k)))
+seen k = withBase 0 (withSuspend 0 (withLeft 0 (withOutcome 0 (withMessage 0 k))))
 
 -- It waits for no object.
 pub no-wait : (t : Table) (i state object : ℕ) → state < waitsSemaphore → SoundWait t i state object
@@ -187,9 +189,7 @@ module _ {n : ℕ} {t : Table} {i : ℕ} (h : Midway n t) (w : Waiter t i) (outc
 pub record Stores (t u : Table) : Type 0 where
   pub tasks : u .tasks ≡ t .tasks
   pub queues : u .queues ≡ t .queues
-  pub semaphores : length (u .semaphores) ≡ length (t .semaphores)
-  pub mutexes : length (u .mutexes) ≡ length (t .mutexes)
-  pub groups : length (u .groups) ≡ length (t .groups)
+  pub shaped : Shaped u
   pub frames : frame u ≡ frame t
   pub objects : SoundObjects u
 
@@ -199,7 +199,7 @@ module _ {n : ℕ} {t u : Table} (h : Midway n t) (x : Stores t u) where
   stores-walk-keeps w worked =
       let s = h .settled in
       becomes-keeps h (may-go-on h {i = 0} (omega arith) (taskOf t 0) (s .tasks 0 (omega arith)) refl (λ d e a. a)) (then-walk (as-is 0 t u (x .tasks) (x .frames)) w)
-      (walk-queued w (same-queued (s .queued) (x .tasks) (x .queues) (x .semaphores) (x .mutexes) (x .groups)))
+      (walk-queued w (same-queued (s .queued) (x .tasks) (x .queues) (x .shaped)))
       worked
       (become-objects (then-walk (as-is 0 u u refl refl) w) (walk-rest w u) (x .objects) (x .objects .waits 0 (omega arith)) (holder-used (x .objects) 0))
 

@@ -5,8 +5,8 @@ use Prim.Native.Nat.{ℕ, _≤_, _<_}
 use native.Mathlib.Omega.{arith}
 use lib.Dec.{eqb}
 use borrow.Author.Tests.{ne-eqb}
-use Rattle.rules.specs.Sizes.{lastPriority, mostNested, mostQuantum, ticksRound, flagSets, testCount, plain, delayed, waitsFlags, objectDeleted}
-use Rattle.rules.specs.Table.{Table, Asked, nothingAsked, noTask, withBase, withWork, withSuspend, withLeft, withState, withMark, withOutcome, withAsked}
+use Rattle.rules.specs.Sizes.{lastPriority, mostNested, mostQuantum, ticksRound, flagSets, testCount, plain, delayed, waitsFlags, objectDeleted, greatestMessage}
+use Rattle.rules.specs.Table.{Table, Asked, nothingAsked, noTask, withBase, withWork, withSuspend, withLeft, withState, withMark, withOutcome, withMessage, withAsked}
 use Rattle.rules.specs.Decides.{equals}
 use Rattle.rules.specs.Move.{ready}
 use Rattle.rules.specs.Sound.{marksIn, asksIn, TaskInRange, SoundTask, SoundNumbers}
@@ -93,6 +93,9 @@ module _ {k : Task} (r : SoundTask k) where
 
     pub outcome-right : (outcome : ℕ) → outcome ≤ objectDeleted → SoundTask (withOutcome outcome k)
     outcome-right outcome l = in-use u (omega arith) (r .plainMark) (r .delayMark) (r .left) (r .asks) (r .turn u)
+
+    pub message-right : (v : ℕ) → v ≤ greatestMessage → SoundTask (withMessage v k)
+    message-right v l = in-use u (omega arith) (r .plainMark) (r .delayMark) (r .left) (r .asks) (r .turn u)
 
     pub ready-right : (outcome : ℕ) → outcome ≤ objectDeleted → SoundTask (ready outcome k)
     unfolding ofState marksIn asksIn

@@ -1,5 +1,5 @@
 -- What a semaphore's own calls keep.
-use mathlib.Core.Path.{_≡_}
+use mathlib.Core.Path.{_≡_, refl}
 use mathlib.Core.Logic.{inr, _≢_}
 use Prim.Native.Nat.{ℕ, _-_, _≤_, _<_}
 use native.Mathlib.Omega.{arith}
@@ -8,7 +8,7 @@ use Rattle.rules.specs.Sizes.{semaphoreCount, mostCount, ticksRound, given}
 use Rattle.rules.specs.Table.{Table, nothingAsked, semaphoreOf, semaphoreQueue, withSemaphore}
 use Rattle.rules.specs.Decides.{equals, at-most}
 use Rattle.rules.specs.Sound.{Empty, Sound}
-use Rattle.rules.specs.Object.{waits}
+use Rattle.rules.specs.Family.{semaphores}
 use Rattle.rules.specs.Semaphore.{withCountOf}
 use Rattle.rules.specs.Semaphore as semaphore
 use Rattle.rules.specs.declared.Semaphore.{Semaphore}
@@ -36,7 +36,7 @@ module _ {t : Table} (s : Sound t) where
       taken-keeps {t = withCountOf o (semaphoreOf t o .count - 1) t} (counting-keeps o _ l u (omega (arith, s .settled .objects .semaphores o l .count)) z) (caller-task s) (runs-able s c))
       (λ (n : 1 ≤ semaphoreOf t o .count → ⊥).
       let none : semaphoreOf t o .count ≡ 0 = omega arith in
-      waits-keeps semaphores-lawful (midway s) o l limit nothingAsked most (asks-nothing (omega arith)) (caller-task s) (runs-able s c) (free none) (awaited-may t _ o (caller-task s) (record { used = u; count = none })))
+      waits-keeps semaphores-lawful (midway s) o l limit nothingAsked most (asks-nothing (omega arith)) (caller-task s) (runs-able s c) (free none) (awaited-may t _ o semaphores (semaphoreOf t o .count) refl refl (caller-task s) (record { inUse = u; none = none })))
 
   pub post-keeps : (o : ℕ) → o < semaphoreCount → semaphoreOf t o .used ≡ 1 → semaphoreOf t o .count < mostCount → BeforeChoice (semaphore.post o t)
   unfolding semaphore.post

@@ -1,7 +1,7 @@
 -- Every call leaves a sound table sound, and its answer is not 15. The fresh table is sound.
 use mathlib.Core.Path.{_≡_, refl}
+use mathlib.Core.Logic.{_≢_}
 use mathlib.Core.Bool.{Bool}
-use Prim.Native.Nat.{_<_}
 use native.Mathlib.Omega.{arith}
 use Rattle.queue.specs.Order.{count, mayPrecede, fits, isOrdered}
 use Rattle.rules.specs.Sizes.{notSound}
@@ -9,7 +9,7 @@ use Rattle.rules.specs.Chain.{leads, smallest, fresh}
 use Rattle.rules.specs.Table.{Table, freshTable, ableQueue, firstIn, isAble, works, withRunning, holderOf}
 use Rattle.rules.specs.Decides.{itself}
 use Rattle.rules.specs.Move.{next, freshIn, chosen}
-use Rattle.rules.specs.Sound.{Sound, each, isShaped, marksIn, isTaskInRange, isNoTask, isNoSemaphore, isNoMutex, isNoGroup, asksIn, isSoundTask, isSoundSemaphore, isSoundMutex, isSoundGroup, mayWait, isSoundWait, eachOf, isSoundObjects, isSoundQueues, isWorkedOut, isSoundNumbers, isSoundWithin, isSoundRuns, isSound, SoundWithin, NotDue}
+use Rattle.rules.specs.Sound.{Sound, each, isShaped, marksIn, isTaskInRange, isNoTask, isNoSemaphore, isNoMutex, isNoGroup, isNoChannel, asksIn, isSoundTask, isSoundSemaphore, isSoundMutex, isSoundGroup, isSoundChannel, mayWait, isSoundWait, eachOf, isSoundObjects, isSoundQueues, isWorkedOut, isSoundNumbers, isSoundWithin, isSoundRuns, isSound, SoundWithin, NotDue}
 use Rattle.rules.specs.Family.{ofState, placeOf}
 use Rattle.rules.specs.Tested.{sound-tested, tested-sound}
 use Rattle.rules.specs.Step.{answer, effect, Bounded, serve, step}
@@ -50,13 +50,13 @@ module _ {t : Table} (s : Sound t) (c : Call) where
   step-sound b interrupt = rw (step-serve interrupt) (serve-sound b interrupt)
 
 -- No call that is served is answered 15.
-pub serve-small : (c : Call) (interrupt : Bool) (t : Table) → serve c interrupt t .answer < notSound
+pub serve-not-15 : (c : Call) (interrupt : Bool) (t : Table) → serve c interrupt t .answer ≢ notSound
 unfolding serve
-serve-small c interrupt t = accepts c interrupt t .small
+serve-not-15 c interrupt t = accepts c interrupt t .served
 
 -- ---- the fresh table
 
 -- The fresh table is sound.
 pub fresh-sound : Sound freshTable
-unfolding count mayPrecede fits isOrdered leads smallest fresh freshTable isAble placeOf works holderOf next freshIn each isShaped ofState marksIn isTaskInRange isNoTask isNoSemaphore isNoMutex isNoGroup asksIn isSoundTask isSoundSemaphore isSoundMutex isSoundGroup mayWait eachOf isSoundWait isSoundObjects isSoundQueues isWorkedOut isSoundNumbers isSoundWithin isSoundRuns isSound
+unfolding count mayPrecede fits isOrdered leads smallest fresh freshTable isAble placeOf works holderOf next freshIn each isShaped ofState marksIn isTaskInRange isNoTask isNoSemaphore isNoMutex isNoGroup isNoChannel asksIn isSoundTask isSoundSemaphore isSoundMutex isSoundGroup isSoundChannel mayWait eachOf isSoundWait isSoundObjects isSoundQueues isWorkedOut isSoundNumbers isSoundWithin isSoundRuns isSound
 fresh-sound = tested-sound freshTable refl

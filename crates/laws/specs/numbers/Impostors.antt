@@ -21,7 +21,7 @@ use Rattle.laws.specs.order.Order.{Made}
 -- These the proofs alone use.
 use Rattle.queue.specs.Slots.{firstAt, later, push, pull, opened, closed}
 use Rattle.queue.specs.Order.{count, mayPrecede, fits, isOrdered}
-use Rattle.rules.specs.Sound.{each, isShaped, marksIn, isTaskInRange, isNoTask, isNoSemaphore, isNoMutex, isNoGroup, asksIn, isSoundTask, isSoundSemaphore, isSoundMutex, isSoundGroup, mayWait, isSoundWait, eachOf, isSoundObjects, isSoundQueues, isWorkedOut, isSoundNumbers, isSoundWithin, isSoundRuns, isSound}
+use Rattle.rules.specs.Sound.{each, isShaped, marksIn, isTaskInRange, isNoTask, isNoSemaphore, isNoMutex, isNoGroup, isNoChannel, asksIn, isSoundTask, isSoundSemaphore, isSoundMutex, isSoundGroup, isSoundChannel, mayWait, isSoundWait, eachOf, isSoundObjects, isSoundQueues, isWorkedOut, isSoundNumbers, isSoundWithin, isSoundRuns, isSound}
 use Rattle.rules.specs.Family.{ofState, placeOf}
 use Rattle.rules.specs.Tested.{tested-sound}
 use Rattle.rules.specs.Chain.{leads, smallest, fresh}
@@ -117,7 +117,7 @@ record Raising : Type 0 where
   next : taskOf (serve (MutexWait 0 1 0) false raised .table) 3 .work ≡ 5
 
 raising : Raising
-unfolding firstAt later push pull opened closed leads smallest fresh walkOn freshTable isAble placeOf works leave join stays put holderOf next freshIn chosen quantumOf createAnswer create objectCreateAnswer blocked waits taken mutex.create mutex.waitAnswer mutex.wait answerTo changeBy toldIn spelled forInterrupts answer effect serve count mayPrecede fits isOrdered each isShaped ofState marksIn isTaskInRange isNoTask isNoSemaphore isNoMutex isNoGroup asksIn isSoundTask isSoundSemaphore isSoundMutex isSoundGroup mayWait eachOf isSoundWait isSoundObjects isSoundQueues isWorkedOut isSoundNumbers isSoundWithin isSoundRuns isSound after
+unfolding firstAt later push pull opened closed leads smallest fresh walkOn freshTable isAble placeOf works leave join stays put holderOf next freshIn chosen quantumOf createAnswer create objectCreateAnswer blocked waits taken mutex.create mutex.waitAnswer mutex.wait answerTo changeBy toldIn spelled forInterrupts answer effect serve count mayPrecede fits isOrdered each isShaped ofState marksIn isTaskInRange isNoTask isNoSemaphore isNoMutex isNoGroup isNoChannel asksIn isSoundTask isSoundSemaphore isSoundMutex isSoundGroup isSoundChannel mayWait eachOf isSoundWait isSoundObjects isSoundQueues isWorkedOut isSoundNumbers isSoundWithin isSoundRuns isSound after
 raising = record { sound = refl; before = refl; base = refl; next = refl }
 
 -- Nothing that does what the rules say is one of the five.

@@ -10,27 +10,28 @@ use lib.Dec.{eqb, leb}
 use lib.ListN.{length, getD}
 use borrow.Author.Tests.{eqb-true, leb-true}
 use Rattle.queue.specs.Slots.{firstAt, same}
-use Rattle.rules.specs.Sizes.{taskCount, testCount, done, beyondRange, notInUse, inUse, badValue, byInterrupt, noneRunning, whileLocked, nothingToTake, notSound}
-use Rattle.rules.specs.Table.{Table, taskOf, semaphoreOf, mutexOf, isUsed}
+use Rattle.rules.specs.Sizes.{taskCount, channelCount, testCount, done, beyondRange, notInUse, inUse, badValue, byInterrupt, noneRunning, whileLocked, nothingToTake, notSound}
+use Rattle.rules.specs.Table.{Table, taskOf, semaphoreOf, mutexOf, channelOf, isUsed}
 use Rattle.rules.specs.Decides.{Decides, equals, at-most, itself, fails, both, each-one}
 use Rattle.rules.specs.Tested.{sound}
 use Rattle.rules.specs.Task.{onTask, createAnswer, deleteAnswer, priorityAnswer, suspendAnswer, resumeAnswer}
 use Rattle.rules.specs.Time.{callerOf, byCaller, yieldAnswer, delayAnswer, delayResumeAnswer}
 use Rattle.rules.specs.Lock.{lockAnswer, unlockAnswer}
 use Rattle.rules.specs.Quantum.{defaultAnswer}
-use Rattle.rules.specs.Family.{Family, semaphores, mutexes, groups}
+use Rattle.rules.specs.Family.{Family, semaphores, mutexes, groups, channels}
 use Rattle.rules.specs.Object.{onObject, yesNo, blockAnswer, waitAnswerOn, onOne, objectCreateAnswer, objectDeleteAnswer, objectAbortAnswer}
 use Rattle.rules.specs.Semaphore as semaphore
 use Rattle.rules.specs.Mutex as mutex
 use Rattle.rules.specs.Group as group
+use Rattle.rules.specs.Channel as channel
 use Rattle.rules.specs.Sound.{Each, each, isSound}
 use Rattle.rules.specs.Step.{answerTo, forInterrupts, answer, serve, step}
 use Rattle.rules.specs.declared.Call.{Call}
 use Rattle.laws.specs.queues.Put.{pick}
-use Rattle.laws.specs.numbers.Presumes.{interrupted, not-not, too-great, no-quantum, wrongly, locked, runs-locked, answers, accepts}
+use Rattle.laws.specs.numbers.Presumes.{interrupted, not-not, too-great, no-quantum, wrongly, no-capacity, channel-create-is, locked, runs-locked, answers, accepts}
 use Rattle.laws.specs.numbers.Found.{peer, holding}
-use Rattle.laws.specs.numbers.Numbers.{paperOrder, rank, Thing, countOf, numberOf, usedIn, Creates, aTask, aSemaphore, aMutex, aGroup, Deletes, semaphoreDelete, mutexDelete, groupDelete, AsksFor, semaphoreWait, mutexWait, groupWait, Aborts, semaphoreAbort, mutexAbort, groupAbort, On, taskDelete, changePriority, suspend, resume, delayResume, toDelete, toAsk, toAbort, semaphorePost, mutexPost, groupPost, FindsNothing, counted, held, unmet, Gets, Answered}
-use Rattle.laws.specs.numbers.Numbers.{unsound, interrupts, yieldByNone, delayByNone, waitByNone, mutexPostByNone, beyond, unused, used, createBase, changeBase, badForce, badBlock, noTicks, createQuantum, defaultZero, defaultAbove, waitNoMask, fifthTest, badConsume, postNoMask, badOn, nonBlocking, lockedYield, lockedDelay, lockedWait, lockedSuspend, lockedDelete, foreign, nestedMutex, nestedLock, nestedSuspend, full, unlocked, notSuspended, notDelayed, noWaiter, noPeer, hasWaiters, holder, waits, accepted}
+use Rattle.laws.specs.numbers.Numbers.{paperOrder, rank, Thing, countOf, numberOf, usedIn, Creates, aTask, aSemaphore, aMutex, aGroup, aChannel, Deletes, semaphoreDelete, mutexDelete, groupDelete, channelDelete, AsksFor, semaphoreWait, mutexWait, groupWait, channelWait, Aborts, semaphoreAbort, mutexAbort, groupAbort, channelAbort, On, taskDelete, changePriority, suspend, resume, delayResume, toDelete, toAsk, toAbort, semaphorePost, mutexPost, groupPost, channelPost, channelFlush, FindsNothing, counted, held, unmet, noMessage, Gets, Answered}
+use Rattle.laws.specs.numbers.Numbers.{unsound, interrupts, yieldByNone, delayByNone, waitByNone, mutexPostByNone, beyond, unused, used, createBase, changeBase, badForce, badBlock, noTicks, createQuantum, defaultZero, defaultAbove, waitNoMask, fifthTest, badConsume, postNoMask, badOn, badCapacity, badFront, noRoom, nonBlocking, lockedYield, lockedDelay, lockedWait, lockedSuspend, lockedDelete, foreign, nestedMutex, nestedLock, nestedSuspend, full, unlocked, notSuspended, notDelayed, noWaiter, noPeer, hasWaiters, holder, waits, accepted}
 
 -- ---- no condition of an earlier number holds
 
@@ -107,7 +108,7 @@ no-later : {interrupt : Bool} {t : Table} {n : ℕ} (c : Call) → Soon n (cond 
 no-later {interrupt} {t} {n} c s = record { comes = subst (λ (x : ℕ). rank x ≤ rank n) (sym (whole c interrupt t)) (s .soon) }
 
 -- Each number is in the order, and can be read off it.
-listed : Each 16 (λ n. rank n ≤ rank done)
+listed : Each 17 (λ n. rank n ≤ rank done)
 unfolding rank paperOrder firstAt each
 listed = each-one {p = λ n. leb (rank n) (rank done)} (λ n l. at-most) .holds refl
 
@@ -135,23 +136,26 @@ unfolding answerTo
 deletes-is semaphoreDelete t = refl
 deletes-is mutexDelete t = refl
 deletes-is groupDelete t = refl
+deletes-is channelDelete t = refl
 
 aborts-is : {c : Call} {f : Family} {o : ℕ} → Aborts c f o → (t : Table) → answerTo c t ≡ objectAbortAnswer f o t
 unfolding answerTo
 aborts-is semaphoreAbort t = refl
 aborts-is mutexAbort t = refl
 aborts-is groupAbort t = refl
+aborts-is channelAbort t = refl
 
 asks-is : {c : Call} {f : Family} {o block : ℕ} → AsksFor c f o block → (t : Table) → (x : ℕ) × (answerTo c t ≡ waitAnswerOn f o block x t)
-unfolding answerTo semaphore.waitAnswer mutex.waitAnswer group.waitAnswer
+unfolding answerTo semaphore.waitAnswer mutex.waitAnswer group.waitAnswer channel.waitAnswer
 asks-is semaphoreWait t = (_, refl)
 asks-is mutexWait t = (_, refl)
 asks-is groupWait t = (_, refl)
+asks-is channelWait t = (_, refl)
 
 module _ (t : Table) where
   -- A call on a thing tests the thing first, or after the caller.
   on-start : {c : Call} {x : Thing} → On c x → (P : ℕ → Type 0) → P noneRunning → ((n : ℕ) → P (onObject (countOf x) (numberOf x) (usedIn t x) n)) → P (answerTo c t)
-  unfolding countOf numberOf usedIn answerTo deleteAnswer priorityAnswer suspendAnswer resumeAnswer delayResumeAnswer objectDeleteAnswer objectAbortAnswer semaphore.waitAnswer semaphore.postAnswer mutex.waitAnswer mutex.postAnswer group.waitAnswer group.postAnswer
+  unfolding countOf numberOf usedIn answerTo deleteAnswer priorityAnswer suspendAnswer resumeAnswer delayResumeAnswer objectDeleteAnswer objectAbortAnswer semaphore.waitAnswer semaphore.postAnswer mutex.waitAnswer mutex.postAnswer group.waitAnswer group.postAnswer channel.waitAnswer channel.postAnswer channel.flushAnswer
   on-start taskDelete P none on = on _
   on-start changePriority P none on = on _
   on-start suspend P none on = on _
@@ -163,6 +167,8 @@ module _ (t : Table) where
   on-start semaphorePost P none on = on _
   on-start mutexPost P none on = pick P (equals {x = t .running} {y = 0}) (λ z. none) λ z. on _
   on-start groupPost P none on = on _
+  on-start channelPost P none on = on _
+  on-start channelFlush P none on = on _
 
   new-start : {c : Call} {x : Thing} → Creates c x → (P : ℕ → Type 0) → ((n : ℕ) → P (cond (leb (countOf x) (numberOf x)) beyondRange (cond (isUsed (usedIn t x)) inUse n))) → P (answerTo c t)
   unfolding countOf numberOf usedIn answerTo createAnswer objectCreateAnswer
@@ -170,14 +176,17 @@ module _ (t : Table) where
   new-start aSemaphore P on = on _
   new-start aMutex P on = on _
   new-start aGroup P on = on _
+  new-start (aChannel {o} {capacity}) P on = rw (channel-create-is o capacity t) (on _)
 
   nothing-start : {n block : ℕ} {c : Call} → leb (rank badValue) (rank n) ≡ true → FindsNothing t block c → Soon n (blockAnswer block t) → Soon n (answerTo c t)
-  unfolding answerTo semaphore.waitAnswer mutex.waitAnswer group.waitAnswer
+  unfolding answerTo semaphore.waitAnswer mutex.waitAnswer group.waitAnswer channel.waitAnswer
   nothing-start l (counted {s} {block} z) r =
       by-caller l t (on-one l semaphores t s (yes-no l block (miss done at-most (λ (h : 1 ≤ semaphoreOf t s .count). omega arith) r)))
   nothing-start l (held {m} {block} d e) r = by-caller l t (on-one l mutexes t m (yes-no l block (miss done (not-not equals) d (miss _ equals e r))))
   nothing-start l (unmet {g} {block} {mask = mask} {test} {consume} n) r =
       by-caller l t (on-one l groups t g (yes-no l block (rightly l mask test (yes-no l consume (miss done itself n r)))))
+  nothing-start l (noMessage {o} {block} z) r =
+      by-caller l t (on-one l channels t o (yes-no l block (miss done at-most (λ (h : 1 ≤ channelOf t o .held). omega arith) r)))
 
   module _ {interrupt : Bool} where
     -- A refusal of the call itself comes after 15 and 5.
@@ -186,7 +195,7 @@ module _ (t : Table) where
     own {c = c} l s = no-later c (past (sound t) (past (interrupted interrupt c) (sooner noneRunning byInterrupt l refl) s) (sooner noneRunning notSound l refl))
 
     rows : {n : ℕ} {c : Call} → Gets interrupt t n c → NoLater interrupt t n c
-    unfolding rank paperOrder firstAt answerTo createAnswer deleteAnswer priorityAnswer suspendAnswer resumeAnswer yieldAnswer delayAnswer delayResumeAnswer lockAnswer unlockAnswer defaultAnswer objectDeleteAnswer objectAbortAnswer semaphore.waitAnswer semaphore.postAnswer mutex.waitAnswer mutex.postAnswer group.waitAnswer group.postAnswer
+    unfolding rank paperOrder firstAt answerTo createAnswer deleteAnswer priorityAnswer suspendAnswer resumeAnswer yieldAnswer delayAnswer delayResumeAnswer lockAnswer unlockAnswer defaultAnswer objectDeleteAnswer objectAbortAnswer semaphore.waitAnswer semaphore.postAnswer mutex.waitAnswer mutex.postAnswer group.waitAnswer group.postAnswer channel.waitAnswer channel.postAnswer channel.flushAnswer
     rows {c = c} (unsound s) = no-later c (miss _ (sound t) s itself-soon)
     rows {c = c} (interrupts e f) = no-later c (past (sound t) (hit _ (interrupted interrupt c) (e, f)) (within notSound refl))
     rows (yieldByNone z) = own refl (hit _ equals z)
@@ -211,6 +220,9 @@ module _ (t : Table) where
     rows (badConsume {g} {block} {mask = mask} {test} h) = own refl (by-caller refl t (on-one refl groups t g (yes-no refl block (rightly refl mask test (hit _ at-most h)))))
     rows (postNoMask {g} z) = own refl (on-one refl groups t g (hit _ equals z))
     rows (badOn {g} {mask} h) = own refl (on-one refl groups t g (past (equals {x = mask} {y = 0}) (within badValue refl) (hit _ at-most h)))
+    rows (badCapacity {o} {capacity} h) = own refl (rw (channel-create-is o capacity t) (on-new refl channelCount o (channelOf t o .used) (hit _ (no-capacity capacity) h)))
+    rows (badFront {o} h) = own refl (on-one refl channels t o (hit _ at-most h))
+    rows (noRoom {o} {front = front} h) = own refl (on-one refl channels t o (yes-no refl front (hit _ at-most h)))
     rows (nonBlocking f z) = own refl (nothing-start refl f (hit _ equals z))
     rows (lockedYield d) = own refl (by-caller refl t (hit _ (locked t) d))
     rows (lockedDelay {n} d) = own refl (by-caller refl t (past (equals {x = n} {y = 0}) (within badValue refl) (hit _ (locked t) d)))

@@ -3,32 +3,33 @@
 -- To read it: each line of `Gets` is a row. Of `unlocked : t .depth ≡ 0 → Gets interrupt t nothingToUndo Unlock` it says: where the
 -- depth is 0, the condition of 12 holds of the call Unlock. No row names 12 and Lock, so Lock never gets it. `A → B → C` is "where A and
 -- B, C", `≢` is "is not", and `Empty q t` is "no task stands in queue q". A row of `Deletes c f o force` is about each call c that deletes
--- number o of a family f, as SemaphoreDelete, MutexDelete and GroupDelete do, and `waitersOf f o` is the queue of that number. What the port alone
--- answers, 1 to a kind that the list lacks and 15 to an image of the wrong length, is no call here.
+-- number o of a family f, as SemaphoreDelete, MutexDelete, GroupDelete and ChannelDelete do, and `waitersOf f o` is the queue of that
+-- number. What the port alone answers, 1 to a kind that the list lacks and 15 to an image of the wrong length, is no call here.
 use mathlib.Core.Path.{_≡_}
 use mathlib.Core.Logic.{_⊎_, _≢_}
 use mathlib.Core.Bool.{Bool, true, false}
 use mathlib.Core.List.{List, [], _∷_}
 use Prim.Native.Nat.{ℕ, _≤_, _<_}
 use Rattle.queue.specs.Slots.{firstAt, same}
-use Rattle.rules.specs.Sizes.{taskCount, mutexCount, lastPriority, mostQuantum, mostNested, mostCount, testCount, delayed, done, beyondRange, notInUse, inUse, badValue, byInterrupt, noneRunning, whileLocked, nothingToTake, notItsHolder, nestedTooDeep, countFull, nothingToUndo, stillNeeded, blocks, notSound}
-use Rattle.rules.specs.Table.{Table, asking, taskOf, semaphoreOf, mutexOf, written}
+use Rattle.rules.specs.Sizes.{taskCount, mutexCount, lastPriority, mostQuantum, mostNested, mostCount, mostMessages, testCount, delayed, done, beyondRange, notInUse, inUse, badValue, byInterrupt, noneRunning, whileLocked, nothingToTake, notItsHolder, nestedTooDeep, countFull, nothingToUndo, stillNeeded, blocks, notSound, channelFull}
+use Rattle.rules.specs.Table.{Table, asking, taskOf, semaphoreOf, mutexOf, channelOf, written}
 use Rattle.rules.specs.Time.{callerOf}
-use Rattle.rules.specs.Family.{Family, waitersOf, semaphores, mutexes, groups}
+use Rattle.rules.specs.Family.{Family, waitersOf, semaphores, mutexes, groups, channels}
 use Rattle.rules.specs.Group.{flagsOf, isMet}
 use Rattle.rules.specs.Sound.{Empty, Sound}
 use Rattle.rules.specs.Step.{forInterrupts}
 use Rattle.rules.specs.declared.Call.{Call}
-use Rattle.rules.specs.declared.Call.the-variants.{TaskCreate, TaskDelete, ChangePriority, Suspend, Resume, Yield, Delay, DelayResume, Lock, Unlock, SetDefaultQuantum, SemaphoreCreate, SemaphoreDelete, SemaphoreWait, SemaphorePost, SemaphoreAbort, MutexCreate, MutexDelete, MutexWait, MutexPost, MutexAbort, GroupCreate, GroupDelete, GroupWait, GroupPost, GroupAbort}
+use Rattle.rules.specs.declared.Call.the-variants.{TaskCreate, TaskDelete, ChangePriority, Suspend, Resume, Yield, Delay, DelayResume, Lock, Unlock, SetDefaultQuantum, SemaphoreCreate, SemaphoreDelete, SemaphoreWait, SemaphorePost, SemaphoreAbort, MutexCreate, MutexDelete, MutexWait, MutexPost, MutexAbort, GroupCreate, GroupDelete, GroupWait, GroupPost, GroupAbort, ChannelCreate, ChannelDelete, ChannelWait, ChannelPost, ChannelAbort, ChannelFlush}
 use Rattle.laws.specs.order.Order.{Peer}
 
 -- ---- the order
 
--- "Order: 15, 5, 6, 1, 2 or 3, 4, then those of the call: a wait 8 before 7; yield 7 before 12; task delete 7 before 13." Of 9 to
--- 13 each call can get one number at most, so their order among themselves does not matter. 14 and 0 come where nothing refuses.
+-- "Order: 15, 5, 6, 1, 2 or 3, 4, then those of the call: a wait 8 before 7; yield 7 before 12; task delete 7 before 13", and a post of a
+-- message "16, after 4". Of 9 to 13 each call can get one number at most, so their order among themselves does not matter. 14 and 0 come
+-- where nothing refuses.
 unfoldable pub paperOrder : List ℕ
 paperOrder =
-    notSound ∷ byInterrupt ∷ noneRunning ∷ beyondRange ∷ notInUse ∷ inUse ∷ badValue
+    notSound ∷ byInterrupt ∷ noneRunning ∷ beyondRange ∷ notInUse ∷ inUse ∷ badValue ∷ channelFull
     ∷ nothingToTake ∷ whileLocked ∷ notItsHolder ∷ nestedTooDeep ∷ countFull ∷ nothingToUndo ∷ stillNeeded
     ∷ blocks ∷ done ∷ []
 
@@ -64,22 +65,26 @@ pub data Creates : Call → Thing → Type 0 where
   aSemaphore : {s n : ℕ} → Creates (SemaphoreCreate s n) (object semaphores s)
   aMutex : {m : ℕ} → Creates (MutexCreate m) (object mutexes m)
   aGroup : {g flags : ℕ} → Creates (GroupCreate g flags) (object groups g)
+  aChannel : {o capacity : ℕ} → Creates (ChannelCreate o capacity) (object channels o)
 
 -- The call deletes number o of a family (`force`: also with waiters); waits for it (`block`: if need be); lets its first waiter go.
 pub data Deletes : Call → Family → (o force : ℕ) → Type 0 where
   semaphoreDelete : {s force : ℕ} → Deletes (SemaphoreDelete s force) semaphores s force
   mutexDelete : {m force : ℕ} → Deletes (MutexDelete m force) mutexes m force
   groupDelete : {g force : ℕ} → Deletes (GroupDelete g force) groups g force
+  channelDelete : {o force : ℕ} → Deletes (ChannelDelete o force) channels o force
 
 pub data AsksFor : Call → Family → (o block : ℕ) → Type 0 where
   semaphoreWait : {s block limit : ℕ} → AsksFor (SemaphoreWait s block limit) semaphores s block
   mutexWait : {m block limit : ℕ} → AsksFor (MutexWait m block limit) mutexes m block
   groupWait : {g block limit mask test consume : ℕ} → AsksFor (GroupWait g block limit mask test consume) groups g block
+  channelWait : {o block limit : ℕ} → AsksFor (ChannelWait o block limit) channels o block
 
 pub data Aborts : Call → Family → (o : ℕ) → Type 0 where
   semaphoreAbort : {s : ℕ} → Aborts (SemaphoreAbort s) semaphores s
   mutexAbort : {m : ℕ} → Aborts (MutexAbort m) mutexes m
   groupAbort : {g : ℕ} → Aborts (GroupAbort g) groups g
+  channelAbort : {o : ℕ} → Aborts (ChannelAbort o) channels o
 
 -- The call is on it, and wants it in use.
 pub data On : Call → Thing → Type 0 where
@@ -94,12 +99,16 @@ pub data On : Call → Thing → Type 0 where
   semaphorePost : {s : ℕ} → On (SemaphorePost s) (object semaphores s)
   mutexPost : {m : ℕ} → On (MutexPost m) (object mutexes m)
   groupPost : {g mask on : ℕ} → On (GroupPost g mask on) (object groups g)
+  channelPost : {o message front : ℕ} → On (ChannelPost o message front) (object channels o)
+  channelFlush : {o : ℕ} → On (ChannelFlush o) (object channels o)
 
--- A wait that finds nothing to take: at count 0, of a mutex that another task holds, or of flags that do not meet its test.
+-- A wait that finds nothing to take: at count 0, of a mutex that another task holds, of flags that do not meet its test, or of a channel
+-- without a message.
 pub data FindsNothing (t : Table) : (block : ℕ) → Call → Type 0 where
   counted : {s block limit : ℕ} → semaphoreOf t s .count ≡ 0 → FindsNothing t block (SemaphoreWait s block limit)
   held : {m block limit : ℕ} → mutexOf t m .holder ≢ 0 → mutexOf t m .holder ≢ written (callerOf t) → FindsNothing t block (MutexWait m block limit)
   unmet : {g block limit mask test consume : ℕ} → isMet (flagsOf t g) (asking mask test consume) ≢ true → FindsNothing t block (GroupWait g block limit mask test consume)
+  noMessage : {o block limit : ℕ} → channelOf t o .held ≡ 0 → FindsNothing t block (ChannelWait o block limit)
 
 -- Task i holds a mutex.
 pub record Holds (i : ℕ) (t : Table) : Type 0 where
@@ -113,7 +122,7 @@ pub record Holds (i : ℕ) (t : Table) : Type 0 where
 pub data Gets (interrupt : Bool) (t : Table) : ℕ → Call → Type 0 where
   -- 15: "the table is not sound"
   unsound : {c : Call} → (Sound t → ⊥) → Gets interrupt t notSound c
-  -- 5: "made by an interrupt, and not a tick or a semaphore post", nor a post of flags
+  -- 5: "made by an interrupt, and not a tick or a semaphore post", nor a post of flags or of a message
   interrupts : {c : Call} → interrupt ≡ true → forInterrupts c ≡ false → Gets interrupt t byInterrupt c
   -- 6: "yield, delay, semaphore or mutex wait, mutex post: none is running"
   yieldByNone : t .running ≡ 0 → Gets interrupt t noneRunning Yield
@@ -142,6 +151,11 @@ pub data Gets (interrupt : Bool) (t : Table) : ℕ → Call → Type 0 where
   badConsume : {g block limit mask test consume : ℕ} → 1 < consume → Gets interrupt t badValue (GroupWait g block limit mask test consume)
   postNoMask : {g mask on : ℕ} → mask ≡ 0 → Gets interrupt t badValue (GroupPost g mask on)
   badOn : {g mask on : ℕ} → 1 < on → Gets interrupt t badValue (GroupPost g mask on)
+  -- "capacity 0 or above 32 gets 4"; to the front or to the end is a yes/no byte
+  badCapacity : {o capacity : ℕ} → (capacity ≡ 0) ⊎ (mostMessages < capacity) → Gets interrupt t badValue (ChannelCreate o capacity)
+  badFront : {o message front : ℕ} → 1 < front → Gets interrupt t badValue (ChannelPost o message front)
+  -- 16: "for a post to a full queue"
+  noRoom : {o message front : ℕ} → channelOf t o .capacity ≤ channelOf t o .held → Gets interrupt t channelFull (ChannelPost o message front)
   -- 8: "a non-blocking wait finds nothing to take"
   nonBlocking : {block : ℕ} {c : Call} → FindsNothing t block c → block ≡ 0 → Gets interrupt t nothingToTake c
   -- 7: "lock depth above 0: yield, delay, a wait that would block, suspend or delete of the running task"

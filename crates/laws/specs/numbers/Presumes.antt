@@ -1,32 +1,34 @@
--- Of each call, whatever it is answered: the condition of that number holds (`Numbers`), it is below 15, and where it changes anything,
--- what the call presumes holds.
+-- Of each call, whatever it is answered: the condition of that number holds (`Numbers`), it is one of the list and not 15, and where it
+-- changes anything, what the call presumes holds.
 use mathlib.Core.Path.{_≡_, refl, sym}
 use mathlib.Core.Logic.{_⊎_, inl, inr, ⊎-elim, _≢_}
 use mathlib.Core.Bool.{Bool, true, false, cond, not, _&&_, _||_, false≢true}
 use Prim.Native.Nat.{ℕ, _≤_, _<_}
 use native.Mathlib.Omega.{arith}
 use lib.Dec.{eqb, ltb, leb}
-use Rattle.rules.specs.Sizes.{taskCount, semaphoreCount, mutexCount, groupCount, testCount, lastPriority, mostNested, mostQuantum, mostCount, delayed, done, beyondRange, inUse, notSound}
-use Rattle.rules.specs.Table.{Table, asking, taskOf, semaphoreOf, mutexOf, groupOf, firstIn, written, isUsed}
+use Rattle.rules.specs.Sizes.{taskCount, semaphoreCount, mutexCount, groupCount, channelCount, mostMessages, testCount, lastPriority, mostNested, mostQuantum, mostCount, delayed, done, beyondRange, inUse, notSound, channelFull}
+use Rattle.rules.specs.Table.{Table, asking, taskOf, semaphoreOf, mutexOf, groupOf, channelOf, firstIn, written, isUsed}
 use Rattle.rules.specs.Decides.{Decides, equals, at-most, itself, fails, either, both}
 use Rattle.rules.specs.Move.{isRunning, hasPeer}
 use Rattle.rules.specs.Task.{isLocked, createAnswer, deleteAnswer, priorityAnswer, suspendAnswer, resumeAnswer}
 use Rattle.rules.specs.Time.{callerOf, yieldAnswer, delayAnswer, delayResumeAnswer}
 use Rattle.rules.specs.Lock.{lockAnswer, unlockAnswer}
 use Rattle.rules.specs.Quantum.{defaultAnswer}
-use Rattle.rules.specs.Family.{Family, waitersOf, semaphores, mutexes, groups}
+use Rattle.rules.specs.Family.{Family, waitersOf, semaphores, mutexes, groups, channels}
 use Rattle.rules.specs.Object.{onObject, blockAnswer, waitAnswerOn, objectCreateAnswer, objectDeleteAnswer, objectAbortAnswer}
 use Rattle.rules.specs.Semaphore as semaphore
 use Rattle.rules.specs.Mutex as mutex
 use Rattle.rules.specs.Group.{flagsOf, isMet}
 use Rattle.rules.specs.Group as group
+use Rattle.rules.specs.Channel.{rightCapacity}
+use Rattle.rules.specs.Channel as channel
 use Rattle.rules.specs.Step.{changes, answerTo, forInterrupts, answer}
 use Rattle.rules.specs.declared.Call.{Call}
-use Rattle.rules.specs.declared.Call.the-variants.{TaskCreate, TaskDelete, ChangePriority, Suspend, Resume, Yield, Delay, DelayResume, Lock, Unlock, Tick, SetDefaultQuantum, SemaphoreCreate, SemaphoreDelete, SemaphoreWait, SemaphorePost, SemaphoreAbort, MutexCreate, MutexDelete, MutexWait, MutexPost, MutexAbort, GroupCreate, GroupDelete, GroupWait, GroupPost, GroupAbort}
+use Rattle.rules.specs.declared.Call.the-variants.{TaskCreate, TaskDelete, ChangePriority, Suspend, Resume, Yield, Delay, DelayResume, Lock, Unlock, Tick, SetDefaultQuantum, SemaphoreCreate, SemaphoreDelete, SemaphoreWait, SemaphorePost, SemaphoreAbort, MutexCreate, MutexDelete, MutexWait, MutexPost, MutexAbort, GroupCreate, GroupDelete, GroupWait, GroupPost, GroupAbort, ChannelCreate, ChannelDelete, ChannelWait, ChannelPost, ChannelAbort, ChannelFlush}
 use Rattle.laws.specs.queues.Put.{pick, pick-not}
 use Rattle.laws.specs.numbers.Found.{peer, holding}
-use Rattle.laws.specs.numbers.Numbers.{Thing, object, countOf, numberOf, usedIn, Creates, aTask, aSemaphore, aMutex, aGroup, Deletes, semaphoreDelete, mutexDelete, groupDelete, AsksFor, semaphoreWait, mutexWait, groupWait, Aborts, semaphoreAbort, mutexAbort, groupAbort, On, taskDelete, changePriority, suspend, resume, delayResume, toDelete, toAsk, toAbort, semaphorePost, mutexPost, groupPost, FindsNothing, counted, held, unmet, Holds, Gets}
-use Rattle.laws.specs.numbers.Numbers.{interrupts, yieldByNone, delayByNone, waitByNone, mutexPostByNone, beyond, unused, used, createBase, changeBase, badForce, badBlock, noTicks, createQuantum, defaultZero, defaultAbove, waitNoMask, fifthTest, badConsume, postNoMask, badOn, nonBlocking, lockedYield, lockedDelay, lockedWait, lockedSuspend, lockedDelete, foreign, nestedMutex, nestedLock, nestedSuspend, full, unlocked, notSuspended, notDelayed, noWaiter, noPeer, hasWaiters, holder, waits, accepted}
+use Rattle.laws.specs.numbers.Numbers.{Thing, object, countOf, numberOf, usedIn, Creates, aTask, aSemaphore, aMutex, aGroup, aChannel, Deletes, semaphoreDelete, mutexDelete, groupDelete, channelDelete, AsksFor, semaphoreWait, mutexWait, groupWait, channelWait, Aborts, semaphoreAbort, mutexAbort, groupAbort, channelAbort, On, taskDelete, changePriority, suspend, resume, delayResume, toDelete, toAsk, toAbort, semaphorePost, mutexPost, groupPost, channelPost, channelFlush, FindsNothing, counted, held, unmet, noMessage, Holds, Gets}
+use Rattle.laws.specs.numbers.Numbers.{interrupts, yieldByNone, delayByNone, waitByNone, mutexPostByNone, beyond, unused, used, createBase, changeBase, badForce, badBlock, noTicks, createQuantum, defaultZero, defaultAbove, waitNoMask, fifthTest, badConsume, postNoMask, badOn, badCapacity, badFront, noRoom, nonBlocking, lockedYield, lockedDelay, lockedWait, lockedSuspend, lockedDelete, foreign, nestedMutex, nestedLock, nestedSuspend, full, unlocked, notSuspended, notDelayed, noWaiter, noPeer, hasWaiters, holder, waits, accepted}
 
 -- ---- what is accepted
 
@@ -71,6 +73,12 @@ Presumes (GroupWait g block limit mask test consume) t =
     × (isMet (flagsOf t g) (asking mask test consume) ≢ true → t .depth ≡ 0)
 Presumes (GroupPost g mask on) t = (g < groupCount) × (groupOf t g .used ≡ 1)
 Presumes (GroupAbort g) t = MayAbort groups g t
+Presumes (ChannelCreate c capacity) t = MayCreate channels c t × (capacity ≢ 0) × (capacity ≤ mostMessages)
+Presumes (ChannelDelete c force) t = c < channelCount
+Presumes (ChannelWait c block limit) t = (t .running ≢ 0) × (c < channelCount) × (channelOf t c .used ≡ 1) × (channelOf t c .held ≡ 0 → t .depth ≡ 0)
+Presumes (ChannelPost c message front) t = (c < channelCount) × (channelOf t c .used ≡ 1) × (channelOf t c .held < channelOf t c .capacity) × (front ≤ 1)
+Presumes (ChannelAbort c) t = MayAbort channels c t
+Presumes (ChannelFlush c) t = (c < channelCount) × (channelOf t c .used ≡ 1)
 
 -- ---- tests
 
@@ -102,6 +110,22 @@ no-quantum n = either equals at-most
 pub wrongly : (mask test : ℕ) → Decides (eqb mask 0 || leb testCount test) ((mask ≡ 0) ⊎ (testCount ≤ test))
 wrongly mask test = either equals at-most
 
+-- "capacity 0 or above 32"
+pub no-capacity : (n : ℕ) → Decides (eqb n 0 || ltb mostMessages n) ((n ≡ 0) ⊎ (mostMessages < n))
+no-capacity n = either equals at-most
+
+-- The create of a channel tests its number, and then the capacity.
+pub channel-create-is : (c capacity : ℕ) (t : Table)
+    → channel.createAnswer c capacity t ≡ cond (leb channelCount c) beyondRange (cond (isUsed (channelOf t c .used)) inUse (rightCapacity capacity done))
+unfolding channel.createAnswer objectCreateAnswer
+channel-create-is c capacity t = go (leb channelCount c) (isUsed (channelOf t c .used)) (rightCapacity capacity done)
+  where
+    go : (isBeyond isThere : Bool) (n : ℕ)
+        → cond (eqb (cond isBeyond beyondRange (cond isThere inUse done)) done) n (cond isBeyond beyondRange (cond isThere inUse done)) ≡ cond isBeyond beyondRange (cond isThere inUse n)
+    go true isThere n = refl
+    go false true n = refl
+    go false false n = refl
+
 -- The scheduler is locked.
 pub locked : (t : Table) → Decides (isLocked t) (t .depth ≢ 0)
 locked t = fails equals
@@ -112,30 +136,35 @@ runs-locked i t = both (locked t) equals
 
 -- ---- the answer of a call
 
--- A call is answered n: the condition of n holds, n is below 15, and where n changes anything the call is accepted.
+-- A number of the list that refuses a call on a sound table: it changes nothing, and is not 15.
+abbrev refuses : ℕ → Bool
+refuses n = leb n channelFull && (not (eqb n notSound) && not (changes n))
+
+-- A call is answered n: the condition of n holds, n is a number of the list and not 15, and where n changes anything the call is accepted.
 pub record Answers (interrupt : Bool) (t : Table) (c : Call) (n : ℕ) : Type 0 where
   pub why : Gets interrupt t n c
-  pub small : n < notSound
+  pub small : n ≤ channelFull
+  pub served : n ≢ notSound
   pub holds : changes n ≡ true → Presumes c t
 
 module _ {interrupt : Bool} {t : Table} {c : Call} where
   -- A refusal changes nothing.
-  refused : {n : ℕ} → ltb n notSound && not (changes n) ≡ true → Gets interrupt t n c → Answers interrupt t c n
-  refused e g = let (l, d) = both at-most (fails itself) .holds e in record { why = g; small = l; holds = λ h. absurd (d h) }
+  refused : {n : ℕ} → refuses n ≡ true → Gets interrupt t n c → Answers interrupt t c n
+  refused e g = let (l, d) = both at-most (both (fails equals) (fails itself)) .holds e in record { why = g; small = l; served = d .0; holds = λ h. absurd (d .1 h) }
 
   accept : Presumes c t → Answers interrupt t c done
-  accept p = record { why = accepted; small = omega arith; holds = λ e. p }
+  accept p = record { why = accepted; small = omega arith; served = λ e. omega arith; holds = λ e. p }
 
   -- One answer or another, as the test decides.
   branch : {b : Bool} {m n : ℕ} {B : Type 0} → Decides b B → (B → Answers interrupt t c m) → ((B → ⊥) → Answers interrupt t c n) → Answers interrupt t c (cond b m n)
   branch = pick (Answers interrupt t c)
 
   -- Past a refusal its test has failed.
-  past : {b : Bool} {m n : ℕ} {B : Type 0} → Decides b B → ltb m notSound && not (changes m) ≡ true → (B → Gets interrupt t m c) → ((B → ⊥) → Answers interrupt t c n)
+  past : {b : Bool} {m n : ℕ} {B : Type 0} → Decides b B → refuses m ≡ true → (B → Gets interrupt t m c) → ((B → ⊥) → Answers interrupt t c n)
       → Answers interrupt t c (cond b m n)
   past d e row on = branch d (λ h. refused e (row h)) on
 
-  unless : {b : Bool} {m n : ℕ} {B : Type 0} → Decides b B → ltb m notSound && not (changes m) ≡ true → ((B → ⊥) → Gets interrupt t m c) → (B → Answers interrupt t c n)
+  unless : {b : Bool} {m n : ℕ} {B : Type 0} → Decides b B → refuses m ≡ true → ((B → ⊥) → Gets interrupt t m c) → (B → Answers interrupt t c n)
       → Answers interrupt t c (cond (not b) m n)
   unless d e row on = pick-not (Answers interrupt t c) d (λ h. refused e (row h)) on
 
@@ -149,7 +178,7 @@ module _ {interrupt : Bool} {t : Table} {c : Call} where
 
   -- A wait that finds nothing to take.
   finds-nothing : {block : ℕ} → FindsNothing t block c → (t .depth ≡ 0 → Presumes c t) → Answers interrupt t c (blockAnswer block t)
-  finds-nothing f p = past equals refl (nonBlocking f) λ b. unless equals refl (λ d. lockedWait d f) λ z. record { why = waits f; small = omega arith; holds = λ e. p z }
+  finds-nothing f p = past equals refl (nonBlocking f) λ b. unless equals refl (λ d. lockedWait d f) λ z. record { why = waits f; small = omega arith; served = λ e. omega arith; holds = λ e. p z }
 
   -- ---- the calls that every family has
 
@@ -173,7 +202,7 @@ module _ {interrupt : Bool} {t : Table} {c : Call} where
 module _ (interrupt : Bool) (t : Table) where
   -- Each call made by a task.
   pub answers : (c : Call) → Answers interrupt t c (answerTo c t)
-  unfolding countOf numberOf usedIn answerTo createAnswer deleteAnswer priorityAnswer suspendAnswer resumeAnswer yieldAnswer delayAnswer delayResumeAnswer lockAnswer unlockAnswer defaultAnswer semaphore.waitAnswer semaphore.postAnswer mutex.waitAnswer mutex.postAnswer group.waitAnswer group.postAnswer
+  unfolding countOf numberOf usedIn answerTo createAnswer deleteAnswer priorityAnswer suspendAnswer resumeAnswer yieldAnswer delayAnswer delayResumeAnswer lockAnswer unlockAnswer defaultAnswer semaphore.waitAnswer semaphore.postAnswer mutex.waitAnswer mutex.postAnswer group.waitAnswer group.postAnswer channel.waitAnswer channel.postAnswer channel.flushAnswer
   answers (TaskCreate i base quantum) =
       new-one (aTask {i = i}) λ l u.
       past (too-great base quantum) refl (⊎-elim createBase createQuantum) λ v.
@@ -234,6 +263,24 @@ module _ (interrupt : Bool) (t : Table) where
       finds-nothing (unmet n) λ z. (c, l, u, (λ e. v (inl e)), omega arith, omega arith, λ e. z)
   answers (GroupPost g mask on) = on-it (groupPost {g = g}) λ l u. past equals refl postNoMask λ m. past at-most refl badOn λ n. accept (l, u)
   answers (GroupAbort g) = abort-answers groupAbort λ p. p
+  answers (ChannelCreate c capacity) =
+      rw (channel-create-is c capacity t)
+      (new-one (aChannel {o = c}) λ l u.
+      past (no-capacity capacity) refl badCapacity λ v.
+      let most : mostMessages < capacity → ⊥ = λ x. v (inr x) in
+      accept ((l, u), (λ z. v (inl z)), omega arith))
+  answers (ChannelDelete c force) = delete-answers channelDelete λ l. l
+  answers (ChannelWait c block limit) =
+      wait-answers channelWait λ r l u.
+      branch at-most (λ (n : 1 ≤ channelOf t c .held). accept (r, l, u, λ z. absurd (omega arith))) λ (n : 1 ≤ channelOf t c .held → ⊥).
+      finds-nothing (noMessage (omega arith)) λ z. (r, l, u, λ e. z)
+  answers (ChannelPost c message front) =
+      on-it (channelPost {o = c}) λ l u.
+      past at-most refl badFront λ (f : 1 < front → ⊥).
+      past at-most refl noRoom λ (n : channelOf t c .capacity ≤ channelOf t c .held → ⊥).
+      accept (l, u, omega arith, omega arith)
+  answers (ChannelAbort c) = abort-answers channelAbort λ p. p
+  answers (ChannelFlush c) = on-it (channelFlush {o = c}) λ l u. accept (l, u)
 
 -- Each call, whoever made it.
 pub accepts : (c : Call) (interrupt : Bool) (t : Table) → Answers interrupt t c (answer c interrupt t)

@@ -2,35 +2,40 @@
 use mathlib.Core.Path.{_≡_, refl, sym, ap, _∙_}
 use mathlib.Core.Logic.{_≢_}
 use mathlib.Core.Bool.{Bool, true, false, not, false≢true}
+use mathlib.Core.List.{List}
 use Prim.Native.Nat.{ℕ, _+_, _-_, _≤_, _<_}
 use native.Mathlib.Omega.{arith}
 use lib.Dec.{ltb}
-use lib.ListN.{length-set}
-use Rattle.rules.specs.Sizes.{taskCount, semaphoreCount, mutexCount, groupCount, given, aborted, objectDeleted}
-use Rattle.rules.specs.Table.{Table, Asked, nothingAsked, asking, taskOf, mutexOf, semaphoreOf, groupOf, queueOf, queueCount, ableQueue, mutexQueue, firstIn, written, noTask, withCount, withHold, withFlags, withBase, withState, withAsked}
+use lib.ListN.{getD, drop}
+use Rattle.rules.specs.Sizes.{taskCount, semaphoreCount, mutexCount, groupCount, channelCount, given, aborted, objectDeleted}
+use Rattle.rules.specs.Table.{Table, Asked, nothingAsked, asking, taskOf, mutexOf, semaphoreOf, groupOf, queueOf, queueCount, ableQueue, mutexQueue, channelQueue, firstIn, written, noTask, withCount, withHold, withFlags, withBase, withState, withAsked, withMessage}
 use Rattle.rules.specs.Decides.{equals, itself}
 use Rattle.rules.specs.Move.{put, walk, next, ended}
 use Rattle.rules.specs.Task.{create, delete, changePriority, suspend, resume}
 use Rattle.rules.specs.Time.{callerOf, yield, delay, delayResume}
 use Rattle.rules.specs.Lock.{lock, unlock}
 use Rattle.rules.specs.Quantum.{setDefault}
-use Rattle.rules.specs.Family.{Family, waitersOf, semaphores, placeOf}
+use Rattle.rules.specs.Family.{Family, waitersOf, semaphores, channels, placeOf}
 use Rattle.rules.specs.Object.{emptied, limited, blocked, waits, taken, abort, objectAbort, objectDelete}
 use Rattle.rules.specs.Semaphore as semaphore
 use Rattle.rules.specs.Mutex.{withHoldOf, isHeld, isOwn}
 use Rattle.rules.specs.Mutex as mutex
 use Rattle.rules.specs.Group.{isMet, consumed, turnedOver, posted, flagsOf}
 use Rattle.rules.specs.Group as group
+use Rattle.rules.specs.Messages.{present, holding}
+use Rattle.rules.specs.Channel.{delivered}
+use Rattle.rules.specs.Channel as channel
 use Rattle.rules.specs.Kinds.{toldIn, spelled}
 use Rattle.rules.specs.Step.{changeBy, forInterrupts, answer, effect, changes, serve, step}
 use Rattle.rules.specs.Sound.{Sound, SoundQueues}
 use Rattle.rules.specs.declared.Task.{Task}
 use Rattle.rules.specs.declared.Call.{Call}
-use Rattle.rules.specs.declared.Call.the-variants.{TaskCreate, TaskDelete, ChangePriority, Suspend, Resume, Yield, Delay, DelayResume, Lock, Unlock, Tick, SetDefaultQuantum, SemaphoreCreate, SemaphoreDelete, SemaphoreWait, SemaphorePost, SemaphoreAbort, MutexCreate, MutexDelete, MutexWait, MutexPost, MutexAbort, GroupCreate, GroupDelete, GroupWait, GroupPost, GroupAbort}
+use Rattle.rules.specs.declared.Call.the-variants.{TaskCreate, TaskDelete, ChangePriority, Suspend, Resume, Yield, Delay, DelayResume, Lock, Unlock, Tick, SetDefaultQuantum, SemaphoreCreate, SemaphoreDelete, SemaphoreWait, SemaphorePost, SemaphoreAbort, MutexCreate, MutexDelete, MutexWait, MutexPost, MutexAbort, GroupCreate, GroupDelete, GroupWait, GroupPost, GroupAbort, ChannelCreate, ChannelDelete, ChannelWait, ChannelPost, ChannelAbort, ChannelFlush}
 use Rattle.laws.specs.queues.Rows.{waiting, first-queue, last-queue}
 use Rattle.laws.specs.queues.Stands.{free-place, not-able, first-there, able-stands}
 use Rattle.laws.specs.queues.Put.{whichever, pick, pick-not, task-put-same, place-same, sized}
 use Rattle.laws.specs.queues.Fields.{walk-place}
+use Rattle.laws.specs.queues.Shapes.{semaphore-shaped, group-shaped}
 use Rattle.laws.specs.chains.Graph.{worked-walk}
 use Rattle.laws.specs.keeps.Becomes.{caller, freed, given-to, released-one}
 use Rattle.laws.specs.queues.Queues.{put-queued, walk-queued, same-queued, mutex-queued}
@@ -39,11 +44,12 @@ use Rattle.laws.specs.numbers.Presumes.{Presumes, accepts}
 use Rattle.laws.specs.keeps.Sounds.{step-serve}
 use Rattle.laws.specs.order.Order.{Before, Stayed, Rotated, yields, OrderKept}
 use Rattle.laws.specs.order.Moved.{Two, Same, Oneway, same-goes, Moved, Walks, walks-oneway, put-kept, moved-on, put-moved, same-moved, apart-moved, rotate-moved, walk-moved}
-use Rattle.laws.specs.order.Rising.{freed-goes, rises-oneway, ended-rises, all-rise, woken-rise, ticked-rises}
+use Rattle.laws.specs.order.Rising.{freed-goes, Rises, rises-oneway, still-moved, ended-rises, all-rise, woken-rise, ticked-rises}
 use Rattle.laws.specs.numbers.Found.{peer}
 use Rattle.laws.specs.keeps.Ending.{emptied-all}
-use Rattle.laws.specs.keeps.Moves.{sound-before, Waiter, stored-keeps}
-use Rattle.laws.specs.keeps.Families.{waiter-of, Lawful, semaphores-lawful, mutexes-lawful, groups-lawful}
+use Rattle.laws.specs.keeps.Moves.{sound-before, Waiter, stored-keeps, ended-keeps}
+use Rattle.laws.specs.keeps.Messages.{holding-shaped}
+use Rattle.laws.specs.keeps.Families.{waiter-of, Lawful, semaphores-lawful, mutexes-lawful, groups-lawful, channels-lawful}
 
 -- ---- what is to be shown
 
@@ -189,7 +195,7 @@ module _ {q a b : ℕ} (m : q < queueCount) (two : Two a b) where
     unfolding semaphore.wait
     semaphoreWait-kept n limit r =
         let x = withCount (semaphoreOf t n .count - 1) (semaphoreOf t n) in
-        whichever (KeepsOrder q a b t) (semaphores .offers t n) (taken-kept (same-queued queued refl refl (length-set (t .semaphores) n x) refl refl)) (waits-kept semaphores-lawful n limit nothingAsked r)
+        whichever (KeepsOrder q a b t) (semaphores .offers t n) (taken-kept (same-queued queued refl refl (semaphore-shaped (queued .shaped) n x))) (waits-kept semaphores-lawful n limit nothingAsked r)
 
     mutexWait-kept : (n limit : ℕ) → t .running ≢ 0 → KeepsOrder q a b t (mutex.wait n limit t)
     unfolding mutex.wait
@@ -204,18 +210,50 @@ module _ {q a b : ℕ} (m : q < queueCount) (two : Two a b) where
     unfolding group.wait
     groupWait-kept g limit asked r =
         let x = withFlags (turnedOver (consumed (flagsOf t g) asked) (flagsOf t g)) (groupOf t g) in
-        whichever (KeepsOrder q a b t) (isMet (flagsOf t g) asked) (taken-kept (same-queued queued refl refl refl refl (length-set (t .groups) g x))) (waits-kept groups-lawful g limit asked r)
+        whichever (KeepsOrder q a b t) (isMet (flagsOf t g) asked) (taken-kept (same-queued queued refl refl (group-shaped (queued .shaped) g x))) (waits-kept groups-lawful g limit asked r)
 
     groupPost-kept : (g mask on : ℕ) → g < groupCount → KeepsOrder q a b t (group.post g mask on t)
     unfolding group.post
     groupPost-kept g mask on l = moved-kept (woken-rise two taskCount g (posted mask on (flagsOf t g)) 0 0 l t (sound-before s))
+
+    -- ---- messages
+
+    -- What a channel has bears on no queue, and what a task is given neither on its place nor on its working priority.
+    holding-queued : (c : ℕ) (l : List ℕ) → SoundQueues (holding c l t)
+    unfolding holding
+    holding-queued c l = same-queued queued refl refl (holding-shaped (queued .shaped) c l)
+
+    delivered-moved : {u : Table} (i v : ℕ) → SoundQueues u → Moved Rises a b u (delivered i v u)
+    unfolding delivered
+    delivered-moved {u} i v r = still-moved two i (withMessage v (taskOf u i)) r refl refl refl refl refl
+
+    channelWait-kept : (c limit : ℕ) → t .running ≢ 0 → KeepsOrder q a b t (channel.wait c limit t)
+    unfolding channel.wait delivered taken holding
+    channelWait-kept c limit r =
+        let l = present t c in
+        let k = holding-queued c (drop 1 l) in
+        whichever (KeepsOrder q a b t) (channels .offers t c)
+        (moved-kept
+        (moved-on two rises-oneway (same-moved two rises-oneway t (holding c (drop 1 l) t) refl refl)
+        (moved-on two rises-oneway (delivered-moved (callerOf t) (getD l 0 0) k) (still-moved two _ _ (put-queued _ _ k) refl refl refl refl refl))))
+        (waits-kept channels-lawful c limit nothingAsked r)
+
+    channelPost-kept : (c v front : ℕ) → c < channelCount → KeepsOrder q a b t (channel.post c v front t)
+    unfolding channel.post holding
+    channelPost-kept c v front l =
+        pick-not (KeepsOrder q a b t) equals
+        (λ z.
+        let w = waiter-of channels-lawful (s .settled) c l z in
+        let h = sound-before s in
+        moved-kept (moved-on two rises-oneway (ended-rises two h w given (omega arith)) (delivered-moved (firstIn (channelQueue c) t - 1) v (ended-keeps h w given (omega arith) .settled .queued))))
+        (λ z. unmoved)
 
     -- ---- all calls
 
     -- Of a call that is accepted; an interrupt's yield is not.
     change-kept : (c : Call) (interrupt : Bool) → changes (answer c interrupt t) ≡ true → Presumes c t
         → (Rotated c interrupt t a → ⊥) → (Rotated c interrupt t b → ⊥) → KeepsOrder q a b t (changeBy c t)
-    unfolding answer toldIn spelled forInterrupts changeBy create suspend resume delay delayResume lock unlock setDefault semaphore.create mutex.create group.create
+    unfolding answer toldIn spelled forInterrupts changeBy create suspend resume delay delayResume lock unlock setDefault semaphore.create mutex.create group.create channel.create channel.flush holding
     change-kept (TaskCreate i base quantum) by e h x y = one-kept i _ queued
     change-kept (TaskDelete i) by e h x y = delete-kept i
     change-kept (ChangePriority i base) by e h x y = priority-kept i base
@@ -244,6 +282,12 @@ module _ {q a b : ℕ} (m : q < queueCount) (two : Two a b) where
     change-kept (GroupWait g block limit mask test consume) by e h x y = groupWait-kept g limit (asking mask test consume) (h .0)
     change-kept (GroupPost g mask on) by e (l, u) x y = groupPost-kept g mask on l
     change-kept (GroupAbort g) by e (l, z) x y = objectAbort-kept groups-lawful g l z
+    change-kept (ChannelCreate c capacity) by e h x y = unmoved
+    change-kept (ChannelDelete c force) by e l x y = objectDelete-kept channels-lawful c l
+    change-kept (ChannelWait c block limit) by e h x y = channelWait-kept c limit (h .0)
+    change-kept (ChannelPost c v front) by e h x y = channelPost-kept c v front (h .0)
+    change-kept (ChannelAbort c) by e (l, z) x y = objectAbort-kept channels-lawful c l z
+    change-kept (ChannelFlush c) by e h x y = unmoved
 
 -- ---- the law
 

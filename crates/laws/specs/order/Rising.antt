@@ -112,6 +112,13 @@ module _ {a b : ℕ} (two : Two a b) where
   rises x h =
       record { first = record { work = h a (two .first); place = x .first .place }; second = record { work = h b (two .second); place = x .second .place }; kept = x .kept }
 
+  -- One task becomes k, which stands and works as it did.
+  pub still-moved : {t : Table} (i : ℕ) (k : Task) → SoundQueues t
+      → k .used ≡ taskOf t i .used → k .state ≡ taskOf t i .state → k .suspend ≡ taskOf t i .suspend → k .object ≡ taskOf t i .object → k .work ≡ taskOf t i .work
+      → Moved Rises a b t (put i k t)
+  still-moved {t} i k q used state suspend object work =
+      put-moved two rises-oneway i k q (same-goes rises-oneway i (record { place = place-same (taskOf t i) k used state suspend object; work = work }))
+
   -- One wait or delay ends.
   pub ended-rises : {n : ℕ} {t : Table} {i : ℕ} → Midway n t → Waiter t i → (outcome : ℕ) → outcome ≤ objectDeleted → Moved Rises a b t (ended outcome i t)
   unfolding ended
@@ -190,7 +197,7 @@ module _ (interrupt : Bool) {a b : ℕ} (two : Two a b) where
       still = part-put isAble i k t (able-left _ (taskOf t i))
 
       less : Moved Rises a b t u
-      less = put-moved two rises-oneway i k f (same-goes rises-oneway i (record { place = place-same (taskOf t i) k refl refl refl refl; work = refl }))
+      less = still-moved two i k f refl refl refl refl refl
 
       earlier : Peer i u → Peer i t
       earlier p =

@@ -16,7 +16,7 @@ abbrev pub rest : Table → Table
 rest t = withTasks [] (withQueues [] t)
 
 abbrev pub frame : Table → Table
-frame t = record { tasks = []; semaphores = []; mutexes = []; groups = []; queues = []; tick = t .tick; defaultQuantum = t .defaultQuantum; depth = t .depth; running = t .running }
+frame t = record { tasks = []; semaphores = []; mutexes = []; groups = []; channels = []; queues = []; tick = t .tick; defaultQuantum = t .defaultQuantum; depth = t .depth; running = t .running; messages = [] }
 
 -- The lists of t in the frame of f: where a call changes single numbers alone, it makes f of t, and `framed f t` is f.
 abbrev pub framed : (f t : Table) → Table

@@ -63,6 +63,16 @@ set-each P l i j x none new old = go (ℕ-discrete j i) (lt-or-le i (length l))
     go (yes e) (inl m) = rw e (rw (getD-set-same l i x none m) new)
     go (yes e) (inr m) = rw (set-out l i x m) old
 
+-- The same of two lists, where both have one stored at one number.
+pub set-both : {A B : Type 0} (P : ℕ → A → B → Type 0) (l : List A) (m : List B) (i j : ℕ) (x : A) (y : B) (none : A) (no-one : B) → i < length l → i < length m → P i x y
+    → P j (getD l j none) (getD m j no-one)
+    → P j (getD (set l i x) j none) (getD (set m i y) j no-one)
+set-both P l m i j x y none no-one a b new old = go (ℕ-discrete j i)
+  where
+    go : Dec (j ≡ i) → P j (getD (set l i x) j none) (getD (set m i y) j no-one)
+    go (no d) = rw (getD-set-other l i j x none d, getD-set-other m i j y no-one d) old
+    go (yes e) = rw e (rw (getD-set-same l i x none a, getD-set-same m i y no-one b) new)
+
 -- What a new element shares with the old one, each element keeps.
 pub part-set : {A B : Type 0} (f : A → B) (l : List A) (i : ℕ) (x : A) (j : ℕ) (d : A) → f x ≡ f (getD l i d) → f (getD (set l i x) j d) ≡ f (getD l j d)
 part-set f l i x j d e = set-each (λ n y. f y ≡ f (getD l n d)) l i j x d e refl
@@ -202,13 +212,16 @@ queue-shaped q l t e s =
       semaphores = s .semaphores;
       mutexes = s .mutexes;
       groups = s .groups;
+      channels = s .channels;
       queues = length-set (t .queues) q l ∙ s .queues;
       slots = λ p m. part-set length (t .queues) q l p [] e ∙ s .slots p m;
+      messages = s .messages;
+      rows = s .rows;
     }
 
 pub task-shaped : {t : Table} (i : ℕ) (k : Task) → Shaped t → Shaped (withTask i k t)
 task-shaped {t} i k s =
-    record { tasks = length-set (t .tasks) i k ∙ s .tasks; semaphores = s .semaphores; mutexes = s .mutexes; groups = s .groups; queues = s .queues; slots = s .slots }
+    record { tasks = length-set (t .tasks) i k ∙ s .tasks; semaphores = s .semaphores; mutexes = s .mutexes; groups = s .groups; channels = s .channels; queues = s .queues; slots = s .slots; messages = s .messages; rows = s .rows }
 
 pub put-shaped : {t : Table} (i : ℕ) (k : Task) → Shaped t → Shaped (put i k t)
 put-shaped {t} i k s = put-any Shaped queue-shaped i k t s (task-shaped i k s)

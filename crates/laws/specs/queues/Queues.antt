@@ -7,7 +7,7 @@ use Prim.Native.Nat.{ℕ, _+_, _-_, _≤_, _<_}
 use native.Mathlib.Decide.{ℕ-discrete}
 use native.Mathlib.Omega.{arith}
 use lib.Dec.{eqb, ltb}
-use lib.ListN.{length, set, length-set}
+use lib.ListN.{length, set}
 use lib.Seq.{getD-set-same, getD-set-other, set-getD}
 use borrow.Author.Tests.{eqb-true, eq-eqb, ne-eqb, lt-ltb}
 use Rattle.queue.specs.Slots.{stands, behind, without, moved}
@@ -19,15 +19,15 @@ use Rattle.queue.specs.Keeps.{all-opened, all-closed, Agree, without-ordered, o
 use Rattle.queue.specs.Stable.{without-absent}
 use Rattle.rules.specs.Afresh.{lt-or-le}
 use Rattle.rules.specs.Sizes.{taskCount}
-use Rattle.rules.specs.Table.{Table, taskOf, queueOf, queueCount, ableQueue, works, isAble, written, withTask, withSemaphore, withMutex, withQueue, withLeft}
+use Rattle.rules.specs.Table.{Table, taskOf, queueOf, queueCount, ableQueue, works, isAble, written, withTask, withMutex, withQueue, withLeft}
 use Rattle.rules.specs.Family.{placeOf}
 use Rattle.rules.specs.Move.{leave, join, stays, put, rotate, walk}
 use Rattle.rules.specs.Sound.{Each, once, Shaped, SoundQueues}
 use Rattle.rules.specs.Tested.{once-most}
 use Rattle.rules.specs.declared.Task.{Task}
-use Rattle.rules.specs.declared.Semaphore.{Semaphore}
 use Rattle.rules.specs.declared.Mutex.{Mutex}
 use Rattle.laws.specs.queues.Stands.{able-place}
+use Rattle.laws.specs.queues.Shapes.{mutex-shaped}
 use Rattle.laws.specs.queues.Put.{shifted, put-out, put-moves, put-stays, rotate-in, leave-inv, queue-other, put-stored, task-put, task-put-same, part-put, part-rotate, place-same, work-at, works-put, works-rotate, queue-shaped, task-shaped, put-shaped, rotate-shaped, walk-inv}
 
 -- ---- one queue
@@ -224,24 +224,15 @@ rotate-queued {t} i s l able = right-queued (rotate-shaped i (s .shaped)) (λ q 
 
 -- ---- all that leaves tasks and queues as they are
 
-pub same-queued : {t u : Table} → SoundQueues t → u .tasks ≡ t .tasks → u .queues ≡ t .queues → length (u .semaphores) ≡ length (t .semaphores) → length (u .mutexes) ≡ length (t .mutexes)
-    → length (u .groups) ≡ length (t .groups) → SoundQueues u
+pub same-queued : {t u : Table} → SoundQueues t → u .tasks ≡ t .tasks → u .queues ≡ t .queues → Shaped u → SoundQueues u
 unfolding works
-same-queued {t} {u} s tasks queues semaphores mutexes groups =
+same-queued {t} {u} s tasks queues shaped =
     record {
-      shaped =
-          record {
-            tasks = rw tasks (s .shaped .tasks);
-            semaphores = semaphores ∙ s .shaped .semaphores;
-            mutexes = mutexes ∙ s .shaped .mutexes;
-            groups = groups ∙ s .shaped .groups;
-            queues = rw queues (s .shaped .queues);
-            slots = rw queues (s .shaped .slots);
-          };
+      shaped = shaped;
       places = rw (tasks, queues) (s .places);
       nothingElse = rw queues (s .nothingElse);
       ordered = rw (tasks, queues) (s .ordered);
     }
 
 pub mutex-queued : {t : Table} (m : ℕ) (x : Mutex) → SoundQueues t → SoundQueues (withMutex m x t)
-mutex-queued {t} m x h = same-queued h refl refl refl (length-set (t .mutexes) m x) refl
+mutex-queued {t} m x h = same-queued h refl refl (mutex-shaped (h .shaped) m x)

@@ -11,7 +11,7 @@ use lib.ListN.{length}
 use borrow.Author.Tests.{eqb-true, eqb-false, eq-eqb, ne-eqb}
 use Rattle.rules.specs.Sizes.{delayed}
 use Rattle.rules.specs.Table.{queueCount, ableQueue}
-use Rattle.rules.specs.Family.{Family, waitersOf, semaphores, mutexes, groups, families, lastState, Among, this, other, ofState, objectsIn}
+use Rattle.rules.specs.Family.{Family, waitersOf, semaphores, mutexes, groups, channels, families, lastState, Among, this, other, ofState, objectsIn}
 
 -- From this state and this queue on, up to this queue.
 pub data Laid : (state queue end : ℕ) → List Family → Type 0 where
@@ -20,7 +20,7 @@ pub data Laid : (state queue end : ℕ) → List Family → Type 0 where
 
 -- The families are so.
 pub laid : Laid (delayed + 1) (ableQueue + 1) queueCount families
-laid = more (more (more over))
+laid = more (more (more (more over)))
 
 pub among-semaphores : Among semaphores families
 among-semaphores = this
@@ -31,11 +31,15 @@ among-mutexes = other this
 pub among-groups : Among groups families
 among-groups = other (other this)
 
+pub among-channels : Among channels families
+among-channels = other (other (other this))
+
 -- What holds of each of them.
-pub of-families : (P : Family → Type 0) → P semaphores → P mutexes → P groups → (f : Family) → Among f families → P f
-of-families P x y z f this = x
-of-families P x y z f (other this) = y
-of-families P x y z f (other (other this)) = z
+pub of-families : (P : Family → Type 0) → P semaphores → P mutexes → P groups → P channels → (f : Family) → Among f families → P f
+of-families P x y z v f this = x
+of-families P x y z v f (other this) = y
+of-families P x y z v f (other (other this)) = z
+of-families P x y z v f (other (other (other this))) = v
 
 -- ---- a row of any length
 

@@ -1,12 +1,16 @@
 use Rattle.player.specs.Part.{takenBy}
 use Rattle.player.proofs.Turns.{full-turn, idle-turn, call-turn}
 use mathlib.Core.Path.{sym, ap, _∙_}
+use native.Mathlib.Omega.{arith}
 use borrow.Author.Needs.{needs}
 use Rattle.player.proofs.play_one.Statement.{statement}
 use Rattle.player.proofs.play_one.Tie as tie
 
 returns : tie.Need-returns
 returns c = full-turn _ _ _ _ (c .if1 .taken)
+
+cast-answer : tie.Need-cast-answer
+cast-answer c = omega (arith, c .before .before .serve .ensures .byte)
 
 returns-2 : tie.Need-returns-2
 returns-2 c = let e = c .before .before .before .before .before .before .before .before .before .before .before in
@@ -36,6 +40,7 @@ play-one-spec =
     (λ c κs. search needs)
     (λ c. search needs)
     (λ c κs. search needs)
+    cast-answer
     (λ c κs. search needs)
     (λ c κs. search needs)
     (λ c. search needs)

@@ -11,7 +11,7 @@ returns c =
     let m = s .before .before .before in
     let r = m .before .before in
     let a = r .before .before .before .args in
-    gives-let-in (a .kind) _ (a .image .now) (s .serve-task .last .0) (search needs) (λ j. omega (arith, c .slice-known2 .given j)) (row-by (a .kind) _ (r .before .let-in .ensures) (r .row-of .ensures) (m .row .given .1)) (s .serve-task .ensures) refl refl
+    gives-let-in (a .kind) _ (a .image .now) (s .serve-task .last .0) (search needs) (λ j. omega (arith, c .slice-known2 .given j)) (row-by (a .kind) _ (r .before .let-in .ensures) (r .row-of .ensures) (m .row .given .1)) (s .serve-task .ensures) refl
 
 returns-2 : tie.Need-returns-2
 returns-2 c =

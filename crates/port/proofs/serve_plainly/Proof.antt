@@ -1,3 +1,5 @@
+use mathlib.Core.Path.{ap}
+use Rattle.service.specs.Told.{answerIn, furtherIn}
 use Rattle.table.specs.Image.{imageSize}
 use Rattle.port.proofs.Laws.{gives-answered, gives-lent}
 use borrow.Author.Needs.{needs}
@@ -8,7 +10,7 @@ returns : tie.Need-returns
 returns c =
     let s = c .before .before .before .before in
     let a = s .before .before .before .args in
-    gives-answered (gives-lent (a .image .now) imageSize (search needs) _ _ (s .serve-kind .ensures)) (c .answered .ensures .0) (c .answered .ensures .1)
+    gives-answered (gives-lent (a .image .now) imageSize (search needs) _ _ (s .serve-kind .ensures)) (ap answerIn (c .answered .ensures .0)) (c .answered .ensures .1) (ap furtherIn (c .answered .ensures .0))
 
 pub serve-plainly-spec : {M : Type 1} → statement M
 serve-plainly-spec =

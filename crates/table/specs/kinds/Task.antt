@@ -25,6 +25,7 @@ widths =
     ∷ column 2 taskCount
     ∷ column 4 taskCount
     ∷ column 4 taskCount
+    ∷ column 4 taskCount
     ∷ []
 
 unfoldable pub made : (ℕ → ℕ) → Task
@@ -44,6 +45,7 @@ made r =
       left = r 11;
       due = r 12;
       mask = r 13;
+      message = r 14;
     }
 
 abbrev pub row : Task → List ℕ
@@ -62,6 +64,7 @@ row k =
     ∷ k .left
     ∷ k .due
     ∷ k .mask
+    ∷ k .message
     ∷ []
 
 pub shown : (r : ℕ → ℕ) → row (made r) ≡ tabulate (length widths) r

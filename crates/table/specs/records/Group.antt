@@ -1,6 +1,6 @@
 -- A group's record in the image: what is read of it, and what numbers that are put into its columns change.
 use mathlib.Core.Path.{_≡_, refl, sym, ap, _∙_}
-use mathlib.Core.Logic.{inr}
+use mathlib.Core.Logic.{inl, inr}
 use mathlib.Core.Bool.{true}
 use mathlib.Core.List.{List}
 use Prim.Native.Nat.{ℕ, _<_}
@@ -10,7 +10,7 @@ use Rattle.columns.specs.Every.{every}
 use Rattle.columns.specs.Views.{alike, stored, record-read, putRow, RowFits, withRow, row-put, row-kept, row-entry}
 use Rattle.columns.specs.Runs.{row-run}
 use Rattle.columns.specs.Whole.{Fit, row-fit}
-use Rattle.rules.specs.Sizes.{groupCount}
+use Rattle.rules.specs.Sizes.{groupCount, channelCount}
 use Rattle.rules.specs.Table.{queueCount, groupOf, withGroup}
 use Rattle.rules.specs.declared.Group.{Group}
 use Rattle.rules.specs.Sound.{SoundGroup}
@@ -19,7 +19,8 @@ use Rattle.table.specs.kinds.Task as task
 use Rattle.table.specs.kinds.Semaphore as semaphore
 use Rattle.table.specs.kinds.Mutex as mutex
 use Rattle.table.specs.kinds.Group as group
-use Rattle.table.specs.Image.{queueFirst, tickColumn, defaultColumn, depthColumn, runningColumn, layout, Image, view}
+use Rattle.table.specs.kinds.Channel as channel
+use Rattle.table.specs.Image.{queueFirst, tickColumn, defaultColumn, depthColumn, runningColumn, messageFirst, layout, Image, view}
 
 -- Its columns have one count.
 pub even : alike group.kind layout ≡ true
@@ -41,11 +42,13 @@ module _ (l m : List ℕ) (i j : ℕ) (vs : List ℕ) (h : Image l) where
         semaphores = row-kept group.kind layout even semaphore.kind (inr (omega arith)) vs j i l (omega arith) q f x;
         mutexes = row-kept group.kind layout even mutex.kind (inr (omega arith)) vs j i l (omega arith) q f x;
         groups = row-put group.kind layout even vs j i l (omega arith) q f x;
+        channels = row-kept group.kind layout even channel.kind (inl (omega arith)) vs j i l (omega arith) q f x;
         queues = row-run group.kind layout even queueFirst queueCount (λ n p. inr (omega arith)) vs j i l (omega arith) q f x;
         tick = row-entry group.kind layout even vs j i l (omega arith) q f tickColumn 0 (inr (omega arith)) x;
         defaultQuantum = row-entry group.kind layout even vs j i l (omega arith) q f defaultColumn 0 (inr (omega arith)) x;
         depth = row-entry group.kind layout even vs j i l (omega arith) q f depthColumn 0 (inr (omega arith)) x;
         running = row-entry group.kind layout even vs j i l (omega arith) q f runningColumn 0 (inr (omega arith)) x;
+        messages = row-run group.kind layout even messageFirst channelCount (λ n p. inr (omega arith)) vs j i l (omega arith) q f x;
       }
 
 -- ---- what fits its columns

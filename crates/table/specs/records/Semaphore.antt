@@ -10,7 +10,7 @@ use Rattle.columns.specs.Every.{every}
 use Rattle.columns.specs.Views.{alike, stored, record-read, putRow, RowFits, withRow, row-put, row-kept, row-entry}
 use Rattle.columns.specs.Runs.{row-run}
 use Rattle.columns.specs.Whole.{Fit, row-fit}
-use Rattle.rules.specs.Sizes.{semaphoreCount}
+use Rattle.rules.specs.Sizes.{semaphoreCount, channelCount}
 use Rattle.rules.specs.Table.{queueCount, semaphoreOf, withSemaphore}
 use Rattle.rules.specs.declared.Semaphore.{Semaphore}
 use Rattle.rules.specs.Sound.{SoundSemaphore}
@@ -19,7 +19,8 @@ use Rattle.table.specs.kinds.Task as task
 use Rattle.table.specs.kinds.Semaphore as semaphore
 use Rattle.table.specs.kinds.Mutex as mutex
 use Rattle.table.specs.kinds.Group as group
-use Rattle.table.specs.Image.{queueFirst, tickColumn, defaultColumn, depthColumn, runningColumn, layout, Image, view}
+use Rattle.table.specs.kinds.Channel as channel
+use Rattle.table.specs.Image.{queueFirst, tickColumn, defaultColumn, depthColumn, runningColumn, messageFirst, layout, Image, view}
 
 -- Its columns have one count.
 pub even : alike semaphore.kind layout ≡ true
@@ -41,11 +42,13 @@ module _ (l m : List ℕ) (i j : ℕ) (vs : List ℕ) (h : Image l) where
         semaphores = row-put semaphore.kind layout even vs j i l (omega arith) q f x;
         mutexes = row-kept semaphore.kind layout even mutex.kind (inl (omega arith)) vs j i l (omega arith) q f x;
         groups = row-kept semaphore.kind layout even group.kind (inl (omega arith)) vs j i l (omega arith) q f x;
+        channels = row-kept semaphore.kind layout even channel.kind (inl (omega arith)) vs j i l (omega arith) q f x;
         queues = row-run semaphore.kind layout even queueFirst queueCount (λ n p. inr (omega arith)) vs j i l (omega arith) q f x;
         tick = row-entry semaphore.kind layout even vs j i l (omega arith) q f tickColumn 0 (inr (omega arith)) x;
         defaultQuantum = row-entry semaphore.kind layout even vs j i l (omega arith) q f defaultColumn 0 (inr (omega arith)) x;
         depth = row-entry semaphore.kind layout even vs j i l (omega arith) q f depthColumn 0 (inr (omega arith)) x;
         running = row-entry semaphore.kind layout even vs j i l (omega arith) q f runningColumn 0 (inr (omega arith)) x;
+        messages = row-run semaphore.kind layout even messageFirst channelCount (λ n p. inr (omega arith)) vs j i l (omega arith) q f x;
       }
 
 -- ---- what fits its columns

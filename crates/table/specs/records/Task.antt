@@ -14,14 +14,15 @@ use Rattle.columns.specs.Whole.{Fit, row-fit}
 use Rattle.rules.specs.declared.Task.{Task}
 use Rattle.rules.specs.Table.{queueCount, taskOf, withTask}
 use Rattle.rules.specs.Family.{ofState, objectsIn}
-use Rattle.rules.specs.Sizes.{taskCount, waitsSemaphore, waitsMutex, waitsFlags}
+use Rattle.rules.specs.Sizes.{taskCount, channelCount, waitsSemaphore, waitsMutex, waitsFlags, waitsMessage}
 use Rattle.rules.specs.Sound.{TaskInRange, marksIn, asksIn}
 use Rattle.table.specs.kinds.Task.{made}
 use Rattle.table.specs.kinds.Task as task
 use Rattle.table.specs.kinds.Semaphore as semaphore
 use Rattle.table.specs.kinds.Mutex as mutex
 use Rattle.table.specs.kinds.Group as group
-use Rattle.table.specs.Image.{queueFirst, tickColumn, defaultColumn, depthColumn, runningColumn, layout, Image, view}
+use Rattle.table.specs.kinds.Channel as channel
+use Rattle.table.specs.Image.{queueFirst, tickColumn, defaultColumn, depthColumn, runningColumn, messageFirst, layout, Image, view}
 use Rattle.table.specs.Shape.{view-shaped}
 use Rattle.table.specs.Settled.{then-stored}
 
@@ -45,11 +46,13 @@ module _ (l m : List ℕ) (i j : ℕ) (vs : List ℕ) (h : Image l) where
         semaphores = row-kept task.kind layout even semaphore.kind (inl (omega arith)) vs j i l (omega arith) q f x;
         mutexes = row-kept task.kind layout even mutex.kind (inl (omega arith)) vs j i l (omega arith) q f x;
         groups = row-kept task.kind layout even group.kind (inl (omega arith)) vs j i l (omega arith) q f x;
+        channels = row-kept task.kind layout even channel.kind (inl (omega arith)) vs j i l (omega arith) q f x;
         queues = row-run task.kind layout even queueFirst queueCount (λ n p. inr (omega arith)) vs j i l (omega arith) q f x;
         tick = row-entry task.kind layout even vs j i l (omega arith) q f tickColumn 0 (inr (omega arith)) x;
         defaultQuantum = row-entry task.kind layout even vs j i l (omega arith) q f defaultColumn 0 (inr (omega arith)) x;
         depth = row-entry task.kind layout even vs j i l (omega arith) q f depthColumn 0 (inr (omega arith)) x;
         running = row-entry task.kind layout even vs j i l (omega arith) q f runningColumn 0 (inr (omega arith)) x;
+        messages = row-run task.kind layout even messageFirst channelCount (λ n p. inr (omega arith)) vs j i l (omega arith) q f x;
       }
 
 -- Numbers in a task's columns from j on, behind those of another store.
@@ -75,12 +78,13 @@ pub record Small (k : Task) : Type 0 where
   pub left : k .left < 65536
   pub due : k .due < 4294967296
   pub mask : k .mask < 4294967296
+  pub message : k .message < 4294967296
 
 pub small : (k : Task) → Fit task.kind layout k → Small k
-small k f = record { used = f 0 (omega arith); base = f 1 (omega arith); work = f 2 (omega arith); suspend = f 3 (omega arith); state = f 4 (omega arith); object = f 5 (omega arith); marked = f 6 (omega arith); outcome = f 7 (omega arith); test = f 8 (omega arith); consume = f 9 (omega arith); quantum = f 10 (omega arith); left = f 11 (omega arith); due = f 12 (omega arith); mask = f 13 (omega arith) }
+small k f = record { used = f 0 (omega arith); base = f 1 (omega arith); work = f 2 (omega arith); suspend = f 3 (omega arith); state = f 4 (omega arith); object = f 5 (omega arith); marked = f 6 (omega arith); outcome = f 7 (omega arith); test = f 8 (omega arith); consume = f 9 (omega arith); quantum = f 10 (omega arith); left = f 11 (omega arith); due = f 12 (omega arith); mask = f 13 (omega arith); message = f 14 (omega arith) }
 
 pub small-fits : (k : Task) → Small k → Fit task.kind layout k
-small-fits k r j h = rw (zero-add j) at (row-fit task.kind layout (task.row k) 0 ((omega arith, r .used), ((omega arith, r .base), ((omega arith, r .work), ((omega arith, r .suspend), ((omega arith, r .state), ((omega arith, r .object), ((omega arith, r .marked), ((omega arith, r .outcome), ((omega arith, r .test), ((omega arith, r .consume), ((omega arith, r .quantum), ((omega arith, r .left), ((omega arith, r .due), ((omega arith, r .mask), tt)))))))))))))) j h)
+small-fits k r j h = rw (zero-add j) at (row-fit task.kind layout (task.row k) 0 ((omega arith, r .used), ((omega arith, r .base), ((omega arith, r .work), ((omega arith, r .suspend), ((omega arith, r .state), ((omega arith, r .object), ((omega arith, r .marked), ((omega arith, r .outcome), ((omega arith, r .test), ((omega arith, r .consume), ((omega arith, r .quantum), ((omega arith, r .left), ((omega arith, r .due), ((omega arith, r .mask), ((omega arith, r .message), tt))))))))))))))) j h)
 
 -- What is in range does.
 cond-most : {n x y : ℕ} (b : Bool) → x ≤ n → y ≤ n → cond b x y ≤ n
@@ -89,7 +93,7 @@ cond-most false p q = q
 
 few-objects : (state : ℕ) → objectsIn state ≤ 16
 unfolding ofState
-few-objects state = cond-most (eqb state waitsSemaphore) (omega arith) (cond-most (eqb state waitsMutex) (omega arith) (cond-most (eqb state waitsFlags) (omega arith) (omega arith)))
+few-objects state = cond-most (eqb state waitsSemaphore) (omega arith) (cond-most (eqb state waitsMutex) (omega arith) (cond-most (eqb state waitsFlags) (omega arith) (cond-most (eqb state waitsMessage) (omega arith) (omega arith))))
 
 few-marks : (marked : ℕ) → marksIn marked ≤ 4294967296
 unfolding marksIn

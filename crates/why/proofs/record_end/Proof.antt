@@ -8,11 +8,16 @@ returns c = rw (c .if1 .taken)
 
 returns-2 : tie.Need-returns-2
 unfolding recordEnd
-returns-2 c = rw (c .if1 .left)
+returns-2 c = rw (c .before .if1 .left, c .if2 .taken)
+
+returns-3 : tie.Need-returns-3
+unfolding recordEnd
+returns-3 c = rw (c .before .if1 .left, c .if2 .left)
 
 pub record-end-spec : {M : Type 1} → statement M
 record-end-spec =
     tie.close
     (tie.spec
     returns
-    returns-2)
+    returns-2
+    returns-3)

@@ -1,6 +1,6 @@
 use mathlib.Core.Path.{sym, _∙_}
 use borrow.Author.Needs.{needs}
-use Rattle.port.specs.FieldLaws.{read-wrong, read-task, read-object, read-group, read-slot, read-single}
+use Rattle.port.specs.FieldLaws.{read-wrong, read-task, read-object, read-group, read-channel, read-slot, read-message, read-single}
 use Rattle.port.proofs.read.ntk_read.Statement.{statement}
 use Rattle.port.proofs.read.ntk_read.Tie as tie
 
@@ -32,14 +32,28 @@ returns-5 c =
     let n = c .before .before in
     let e = n .before .before .before in
     let a = e .before .before .args in
-    c .slot-field .ensures ∙ sym (read-slot (a .field) (a .number) (a .image .now) (e .if1 .left) (n .if4 .left) (c .before .if5 .taken))
+    c .channel-field .ensures ∙ sym (read-channel (a .field) (a .number) (a .image .now) (e .if1 .left) (n .if4 .left) (c .before .if5 .taken))
 
 returns-6 : tie.Need-returns-6
 returns-6 c =
-    let n = c .before in
+    let n = c .before .before in
     let e = n .before .before .before .before in
     let a = e .before .before .args in
-    c .single-field .ensures ∙ sym (read-single (a .field) (a .number) (a .image .now) (e .if1 .left) (n .if5 .left))
+    c .slot-field .ensures ∙ sym (read-slot (a .field) (a .number) (a .image .now) (e .if1 .left) (n .if5 .left) (c .before .if6 .taken))
+
+returns-7 : tie.Need-returns-7
+returns-7 c =
+    let n = c .before .before in
+    let e = n .before .before .before .before .before in
+    let a = e .before .before .args in
+    c .message-field .ensures ∙ sym (read-message (a .field) (a .number) (a .image .now) (e .if1 .left) (n .if6 .left) (c .before .if7 .taken))
+
+returns-8 : tie.Need-returns-8
+returns-8 c =
+    let n = c .before in
+    let e = n .before .before .before .before .before .before in
+    let a = e .before .before .args in
+    c .single-field .ensures ∙ sym (read-single (a .field) (a .number) (a .image .now) (e .if1 .left) (n .if7 .left))
 
 pub ntk-read-spec : {M : Type 1} → statement M
 ntk-read-spec =
@@ -55,4 +69,8 @@ ntk-read-spec =
     (λ c κs. search needs)
     returns-5
     (λ c κs. search needs)
-    returns-6)
+    returns-6
+    (λ c κs. search needs)
+    returns-7
+    (λ c κs. search needs)
+    returns-8)

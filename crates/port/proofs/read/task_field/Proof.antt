@@ -66,13 +66,19 @@ unfolding shownIn
 returns-15 c = rw (c .before .match .keys14, lt-ltb _ 32 (c .before .before .if1 .left)) (c .get-consume .ensures)
 
 returns-16 : tie.Need-returns-16
-returns-16 c = let a = c .before .before .before .args in sym (shown-lacking (a .field) (a .number) _ (search (needs, end, with) depth 40))
+unfolding shownIn
+returns-16 c = rw (c .before .match .keys15, lt-ltb _ 32 (c .before .before .if1 .left)) (c .get-message .ensures)
+
+returns-17 : tie.Need-returns-17
+returns-17 c = let a = c .before .before .before .args in sym (shown-lacking (a .field) (a .number) _ (search (needs, end, with) depth 40))
 
 pub task-field-spec : {M : Type 1} → statement M
 task-field-spec =
     tie.close
     (tie.spec
     returns
+    (λ c κs. search needs)
+    (λ c. search needs)
     (λ c κs. search needs)
     (λ c. search needs)
     (λ c κs. search needs)
@@ -115,4 +121,5 @@ task-field-spec =
     returns-13
     returns-14
     returns-15
-    returns-16)
+    returns-16
+    returns-17)

@@ -6,4 +6,4 @@ returns : tie.Need-returns
 returns c = cc
 
 pub are-objects-right-spec : {M : Type 1} → statement M
-are-objects-right-spec = tie.close (tie.spec (λ c κs. search needs) (λ c κs. search needs) (λ c κs. search needs) returns)
+are-objects-right-spec = tie.close (tie.spec (λ c κs. search needs) (λ c κs. search needs) (λ c κs. search needs) (λ c κs. search needs) returns)

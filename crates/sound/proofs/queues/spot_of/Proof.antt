@@ -14,6 +14,9 @@ add-pick-2 c = let b = c .before .before .before in omega (arith, c .get-object 
 add-pick-3 : tie.Need-add-pick-3
 add-pick-3 c = let b = c .before .before .before in omega (arith, c .get-object .ensures, object-most (b .pre .2 (b .args .i) (omega arith)))
 
+add-pick-4 : tie.Need-add-pick-4
+add-pick-4 c = let b = c .before .before .before in omega (arith, c .get-object .ensures, object-most (b .pre .2 (b .args .i) (omega arith)))
+
 returns : tie.Need-returns
 unfolding placeOf ofState
 returns c = cc
@@ -27,6 +30,8 @@ spot-of-spec =
     add-pick
     add-pick-2
     add-pick-3
+    add-pick-4
+    (λ c κs. search needs)
     (λ c κs. search needs)
     (λ c κs. search needs)
     (λ c κs. search needs)

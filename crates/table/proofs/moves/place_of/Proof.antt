@@ -40,10 +40,18 @@ returns-4 c =
 returns-5 : tie.Need-returns-5
 unfolding placeOf ofState
 returns-5 c =
-    let b = c .before .before in
+    let b = c .before .before .before in
     let a = b .before .before .before .before .before .before .args in
     let h : isAble (taskOf (view (a .s .now)) (a .i)) ≡ false = cc in
-    rw (h, ← b .before .before .get-state .ensures, ne-eqb _ _ (b .if2 .left), ne-eqb _ _ (c .before .if3 .left), ne-eqb _ _ (c .if4 .left))
+    rw (h, ← b .before .before .get-state .ensures, ← b .before .get-object .ensures, ne-eqb _ _ (b .if2 .left), ne-eqb _ _ (c .before .before .if3 .left), ne-eqb _ _ (c .before .if4 .left), eq-eqb _ _ (c .if5 .taken))
+
+returns-6 : tie.Need-returns-6
+unfolding placeOf ofState
+returns-6 c =
+    let b = c .before .before .before in
+    let a = b .before .before .before .before .before .before .args in
+    let h : isAble (taskOf (view (a .s .now)) (a .i)) ≡ false = cc in
+    rw (h, ← b .before .before .get-state .ensures, ne-eqb _ _ (b .if2 .left), ne-eqb _ _ (c .before .before .if3 .left), ne-eqb _ _ (c .before .if4 .left), ne-eqb _ _ (c .if5 .left))
 
 pub place-of-spec : {M : Type 1} → statement M
 place-of-spec =
@@ -62,4 +70,7 @@ place-of-spec =
     (λ c. search needs)
     (λ c. search needs)
     returns-4
-    returns-5)
+    (λ c. search needs)
+    (λ c. search needs)
+    returns-5
+    returns-6)

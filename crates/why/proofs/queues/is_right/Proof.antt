@@ -7,19 +7,19 @@ use Rattle.why.proofs.queues.is_right.Statement.{statement}
 use Rattle.why.proofs.queues.is_right.Tie as tie
 
 returns : tie.Need-returns
-returns c = let a = c .before .before .args in sym (kept-beyond (a .rule) (a .n) _ 1312 (c .if1 .taken) (search (end, with) depth 60))
+returns c = let a = c .before .before .args in sym (kept-beyond (a .rule) (a .n) _ 1824 (c .if1 .taken) (search (end, with) depth 60))
 
 returns-2 : tie.Need-returns-2
 unfolding keptIn
-returns-2 c = rw (c .before .match .keys1, lt-ltb _ 1312 (c .before .before .if1 .left)) (c .is-placed .ensures)
+returns-2 c = rw (c .before .match .keys1, lt-ltb _ 1824 (c .before .before .if1 .left)) (c .is-placed .ensures)
 
 returns-3 : tie.Need-returns-3
 unfolding keptIn
-returns-3 c = rw (c .before .match .keys2, lt-ltb _ 1312 (c .before .before .if1 .left)) (cc)
+returns-3 c = rw (c .before .match .keys2, lt-ltb _ 1824 (c .before .before .if1 .left)) (cc)
 
 returns-4 : tie.Need-returns-4
 unfolding keptIn
-returns-4 c = rw (c .before .match .keys3, lt-ltb _ 1312 (c .before .before .if1 .left)) (c .is-ordered .ensures)
+returns-4 c = rw (c .before .match .keys3, lt-ltb _ 1824 (c .before .before .if1 .left)) (c .is-ordered .ensures)
 
 returns-5 : tie.Need-returns-5
 returns-5 c = let a = c .before .before .before .args in sym (kept-lacking (a .rule) (a .n) _ (search (needs, end, with) depth 60))

@@ -2,7 +2,7 @@ use mathlib.Core.Path.{sym, ap}
 use Prim.Native.Nat.{ℕ}
 use lib.Dec.{leb}
 use borrow.Author.Tests.{lt-ltb}
-use Rattle.rules.specs.Sizes.{lastPriority, mostNested, mostQuantum, objectDeleted}
+use Rattle.rules.specs.Sizes.{lastPriority, mostNested, mostQuantum, objectDeleted, greatestMessage}
 use Rattle.rules.specs.Family.{lastState}
 use Rattle.why.specs.Tests.{keptIn}
 use Rattle.why.specs.TestLaws.{end, with, kept-lacking, kept-beyond}
@@ -70,7 +70,11 @@ unfolding keptIn
 returns-15 c = rw (c .before .before .before .match .keys14, lt-ltb _ 32 (c .before .before .before .before .if1 .left)) (cc)
 
 returns-16 : tie.Need-returns-16
-returns-16 c = let a = c .before .before .before .args in sym (kept-lacking (a .rule) (a .i) _ (search (needs, end, with) depth 60))
+unfolding keptIn
+returns-16 c = rw (c .before .match .keys15, lt-ltb _ 32 (c .before .before .if1 .left)) (ap (λ (x : ℕ). leb x greatestMessage) (c .get-message .ensures))
+
+returns-17 : tie.Need-returns-17
+returns-17 c = let a = c .before .before .before .args in sym (kept-lacking (a .rule) (a .i) _ (search (needs, end, with) depth 60))
 
 pub is-in-range-spec : {M : Type 1} → statement M
 is-in-range-spec =
@@ -107,6 +111,7 @@ is-in-range-spec =
     (λ c. search needs)
     (λ c κs. search needs)
     (λ c κs. search needs)
+    (λ c κs. search needs)
     returns-2
     returns-3
     returns-4
@@ -121,4 +126,5 @@ is-in-range-spec =
     returns-13
     returns-14
     returns-15
-    returns-16)
+    returns-16
+    returns-17)

@@ -1,5 +1,5 @@
 use Rattle.table.specs.Image.{view}
-use Rattle.why.specs.Awaited.{used-semaphore, used-mutex, used-group, used-none}
+use Rattle.why.specs.Awaited.{used-semaphore, used-mutex, used-group, used-channel, used-none}
 use borrow.Author.Needs.{needs}
 use Rattle.why.proofs.waits.is_used.Statement.{statement}
 use Rattle.why.proofs.waits.is_used.Tie as tie
@@ -14,7 +14,10 @@ returns-3 : tie.Need-returns-3
 returns-3 c = let a = c .before .before .before .before .before .before .before .args in used-group (view (a .s .now)) (a .i) (c .before .before .before .before .before .get-state .ensures) (c .before .before .before .before .get-object .ensures) (c .before .if3 .taken) (c .used-at3 .ensures)
 
 returns-4 : tie.Need-returns-4
-returns-4 c = let a = c .before .before .before .before .before .before .args in used-none (view (a .s .now)) (a .i) (c .before .before .before .before .get-state .ensures) (c .before .before .if1 .left) (c .before .if2 .left) (c .if3 .left)
+returns-4 c = let a = c .before .before .before .before .before .before .before .before .args in used-channel (view (a .s .now)) (a .i) (c .before .before .before .before .before .before .get-state .ensures) (c .before .before .before .before .before .get-object .ensures) (c .before .if4 .taken) (c .used-at4 .ensures)
+
+returns-5 : tie.Need-returns-5
+returns-5 c = let a = c .before .before .before .before .before .before .before .args in used-none (view (a .s .now)) (a .i) (c .before .before .before .before .before .get-state .ensures) (c .before .before .before .if1 .left) (c .before .before .if2 .left) (c .before .if3 .left) (c .if4 .left)
 
 pub is-used-spec : {M : Type 1} → statement M
 is-used-spec =
@@ -29,4 +32,6 @@ is-used-spec =
     returns-2
     (λ c κs. search needs)
     returns-3
-    returns-4)
+    (λ c κs. search needs)
+    returns-4
+    returns-5)

@@ -8,14 +8,14 @@ use Rattle.rules.specs.Sizes.{taskCount}
 use Rattle.rules.specs.Table.{queueOf}
 use Rattle.table.specs.Image.{view}
 use Rattle.table.specs.Queues.{view-slots}
-use Rattle.sound.specs.Packed.{ofFive}
-use Rattle.sound.proofs.Turns.{five-at, five-end}
+use Rattle.sound.specs.Packed.{ofSeven}
+use Rattle.sound.proofs.Turns.{seven-at, seven-end}
 use borrow.Author.Needs.{needs}
-use Rattle.sound.proofs.queues.free_in_five.Statement.{statement}
-use Rattle.sound.proofs.queues.free_in_five.Tie as tie
+use Rattle.sound.proofs.queues.free_in_seven.Statement.{statement}
+use Rattle.sound.proofs.queues.free_in_seven.Tie as tie
 
 abbrev Inv-loop : tie.InvT-loop
-Inv-loop s q n₀ j₀ n j = (j ≤ taskCount) × (n ≤ 5 * j) × (n + ofFive (λ p. count 0 (drop j (queueOf (view s) p))) q ≡ ofFive (λ p. count 0 (queueOf (view s) p)) q)
+Inv-loop s q n₀ j₀ n j = (j ≤ taskCount) × (n ≤ 7 * j) × (n + ofSeven (λ p. count 0 (drop j (queueOf (view s) p))) q ≡ ofSeven (λ p. count 0 (queueOf (view s) p)) q)
 
 abbrev μ-loop : tie.MeasureT-loop
 μ-loop s q n₀ j₀ n j = taskCount - j
@@ -27,16 +27,16 @@ loop-again : tie.Need-loop-again Inv-loop μ-loop
 loop-again c =
     let l = c .before .before .loop in
     let a = c .before .before .before .before .args in
-    omega (arith, c .free-at-five .ensures, l .inv, five-at (view (a .s .now)) (a .q) (l .j) (λ p h. omega (arith, view-slots (a .s .now) (omega arith) p (omega arith))))
+    omega (arith, c .free-at-seven .ensures, l .inv, seven-at (view (a .s .now)) (a .q) (l .j) (λ p h. omega (arith, view-slots (a .s .now) (omega arith) p (omega arith))))
 
 returns : tie.Need-returns Inv-loop μ-loop
 returns c =
     let l = c .before .loop in
     let a = c .before .before .before .args in
-    omega (arith, l .inv, five-end (view (a .s .now)) (a .q) (l .j) (λ p h. omega (arith, view-slots (a .s .now) (omega arith) p (omega arith))))
+    omega (arith, l .inv, seven-end (view (a .s .now)) (a .q) (l .j) (λ p h. omega (arith, view-slots (a .s .now) (omega arith) p (omega arith))))
 
-pub free-in-five-spec : {M : Type 1} → statement M
-free-in-five-spec =
+pub free-in-seven-spec : {M : Type 1} → statement M
+free-in-seven-spec =
     tie.close
     (tie.spec
     Inv-loop
