@@ -341,7 +341,7 @@ static unsigned resume(struct plain *k, uint32_t a)
     if (!t->used)
         return NTK_NOT_IN_USE;
     if (t->suspended == 0)
-        return NTK_NOTHING_TO_UNDO;
+        return NTK_NOT_SUSPENDED;
     t->suspended--;
     if (t->state == PLAIN_PLAIN)
         join_if_able(k, a);
@@ -357,7 +357,7 @@ static unsigned yield(struct plain *k)
     if (k->depth > 0)
         return NTK_WHILE_LOCKED;
     if (!has_peer(k, i))
-        return NTK_NOTHING_TO_UNDO;
+        return NTK_NO_PEER;
     rotate(k, i);
     k->task[i].left = k->task[i].quantum;
     return NTK_DONE;
@@ -386,7 +386,7 @@ static unsigned delay_resume(struct plain *k, uint32_t a)
     if (!k->task[a].used)
         return NTK_NOT_IN_USE;
     if (k->task[a].state != PLAIN_DELAYED)
-        return NTK_NOTHING_TO_UNDO;
+        return NTK_NOT_DELAYED;
     become_plain(k, a, NTK_GIVEN);
     return NTK_DONE;
 }
@@ -402,7 +402,7 @@ static unsigned lock(struct plain *k)
 static unsigned unlock(struct plain *k)
 {
     if (k->depth == 0)
-        return NTK_NOTHING_TO_UNDO;
+        return NTK_NOT_LOCKED;
     k->depth--;
     return NTK_DONE;
 }
@@ -524,7 +524,7 @@ static inline unsigned abort_first(struct plain *k, unsigned head)
     unsigned first = k->next[head];
 
     if (first == head)
-        return NTK_NOTHING_TO_UNDO;
+        return NTK_NO_WAITER;
     end_wait(k, first, NTK_ABORTED);
     return NTK_DONE;
 }

@@ -18,7 +18,7 @@ extern "C" {
 
 /* The version of this header; ntk_version() is that of the archive. A port is built right where the two are the same. */
 #define NTK_VERSION_MAJOR 1
-#define NTK_VERSION_MINOR 4
+#define NTK_VERSION_MINOR 5
 #define NTK_VERSION_PATCH 0
 #define NTK_VERSION (NTK_VERSION_MAJOR * 10000u + NTK_VERSION_MINOR * 100u + NTK_VERSION_PATCH)
 
@@ -124,11 +124,15 @@ enum ntk_answer {
     NTK_NOT_ITS_HOLDER = 9,  /* mutex post */
     NTK_TOO_DEEP = 10,       /* the 251st nesting of a mutex, lock or suspend */
     NTK_COUNT_FULL = 11,     /* semaphore post at 4294967295 */
-    NTK_NOTHING_TO_UNDO = 12,
+    NTK_NOT_LOCKED = 12,     /* unlock at depth 0 */
     NTK_STILL_NEEDED = 13,   /* an object with waiters, or a task that holds a mutex */
     NTK_BLOCKS = 14,         /* the caller waits: run another task */
     NTK_NOT_SOUND = 15,      /* the image breaks a standing rule or has the wrong length: nothing may run */
-    NTK_CHANNEL_FULL = 16    /* channel post: it holds as many messages as its capacity */
+    NTK_CHANNEL_FULL = 16,   /* channel post: it holds as many messages as its capacity */
+    NTK_NOT_SUSPENDED = 17,  /* resume at suspend count 0 */
+    NTK_NOT_DELAYED = 18,    /* delay resume of a task that is not delayed */
+    NTK_NO_WAITER = 19,      /* abort where nobody waits for the object */
+    NTK_NO_PEER = 20         /* yield without another able task of the same working priority */
 };
 
 /* The outcome of a task's last wait or delay; NTK_NO_SUCH_TASK for a number that is no task's. */
@@ -386,11 +390,15 @@ static inline const char *ntk_answer_name(uint32_t answer)
     case NTK_NOT_ITS_HOLDER: return "not its holder";
     case NTK_TOO_DEEP: return "nested too deep";
     case NTK_COUNT_FULL: return "count full";
-    case NTK_NOTHING_TO_UNDO: return "nothing to undo";
+    case NTK_NOT_LOCKED: return "not locked";
     case NTK_STILL_NEEDED: return "still needed";
     case NTK_BLOCKS: return "blocks";
     case NTK_NOT_SOUND: return "not sound";
     case NTK_CHANNEL_FULL: return "channel full";
+    case NTK_NOT_SUSPENDED: return "not suspended";
+    case NTK_NOT_DELAYED: return "not delayed";
+    case NTK_NO_WAITER: return "no waiter";
+    case NTK_NO_PEER: return "no peer";
     default: return "unknown";
     }
 }

@@ -1,13 +1,14 @@
-/* Each answer's number and the name that the header gives it, and what it gives for a number that is none. */
+/* names LAST: the numbers from 0 to LAST, each with the name that the header gives it. */
 #include <stdio.h>
+#include <stdlib.h>
 
 #include "nonthachak.h"
 
-int main(void)
+int main(int count, char **words)
 {
-    unsigned i;
+    unsigned long i, last = count == 2 ? strtoul(words[1], NULL, 10) : 0;
 
-    for (i = 0; i <= NTK_CHANNEL_FULL + 1u; i++)
-        printf("%u %s\n", i, ntk_answer_name(i));
-    return 0;
+    for (i = 0; i <= last; i++)
+        printf("%lu %s\n", i, ntk_answer_name((uint32_t)i));
+    return count != 2;
 }

@@ -92,6 +92,7 @@ ordering {
         if (word[i] == "" || word[i] == "[]") continue
         if (!(word[i] in number)) refuse("a number without a value: " word[i])
         order[++ranks] = number[word[i]]
+        times[number[word[i]]]++
     }
     if (/\[\]/) ordering = 0
     next
@@ -114,14 +115,18 @@ FILENAME ~ /Numbers/ && relation != "" && relation != "Thing" && /^  [^-]/ {
     }
     split(result, word, / /)
     if (!(word[4] in number)) refuse("a number without a value: " word[4])
+    given[number[word[4]]] = 1
     add_row(number[word[4]], text, substr(result, index(result, word[4]) + length(word[4])))
     rows++
 }
 
 END {
     if (failed) exit 1
-    if (ranks != 17 || rows == 0) {
-        print "laws.awk: " ranks " numbers in the order and " rows " rows" >"/dev/stderr"
+    # The order has each number from 0 on once, and so those of all rows.
+    for (i = 0; i < ranks; i++) given[i] = 1
+    for (i in given) if (times[i] != 1) wrong = wrong " " i
+    if (ranks == 0 || rows == 0 || wrong != "") {
+        print "laws.awk: " ranks + 0 " numbers in the order, " rows + 0 " rows; not once in the order:" (wrong == "" ? " none" : wrong) >"/dev/stderr"
         exit 1
     }
     for (call in byte) {

@@ -225,12 +225,13 @@ static void read_tasks(void)
 
 static void name_answers(void)
 {
+    const uint32_t last = NTK_NO_PEER;
     uint32_t i, j;
 
-    for (i = 0; i <= NTK_CHANNEL_FULL; i++)
-        for (j = 0; j <= NTK_CHANNEL_FULL + 1; j++)
+    for (i = 0; i <= last; i++)
+        for (j = 0; j <= last + 1; j++)
             expect("the same name as another, answer", i, i == j, strcmp(ntk_answer_name(i), ntk_answer_name(j)) == 0);
-    expect("a name of no answer", 17, 0, strcmp(ntk_answer_name(17), "unknown") != 0);
+    expect("a name of no answer", last + 1, 0, strcmp(ntk_answer_name(last + 1), "unknown") != 0);
     expect("a name of no answer", 4294967295u, 0, strcmp(ntk_answer_name(4294967295u), "unknown") != 0);
 }
 

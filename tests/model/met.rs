@@ -231,7 +231,7 @@ impl Met {
         self.channels.tell();
         let mut unmet: Vec<String> = self.channels.unmet().collect();
         for (kind, name, _) in KINDS {
-            let counts = self.answers.range((kind, 0)..=(kind, 16));
+            let counts = self.answers.range((kind, 0)..=(kind, u32::MAX));
             let list: Vec<String> = counts.map(|((_, answer), count)| format!("{answer}: {count}")).collect();
             println!("  {kind:02X} {name:17} {}", list.join(", "));
             let missing = possible(kind).iter().filter(|&&answer| !self.answers.contains_key(&(kind, answer)));
@@ -252,9 +252,10 @@ fn possible(kind: u8) -> &'static [u32] {
         0x02 => &[0, 1, 2, 5, 7, 13],
         0x03 => &[0, 1, 2, 4, 5],
         0x04 => &[0, 1, 2, 5, 7, 10],
-        0x05 | 0x08 | 0x14 | 0x24 | 0x34 | 0x44 => &[0, 1, 2, 5, 12],
-        0x06 => &[0, 5, 6, 7, 12],
+        0x05 => &[0, 1, 2, 5, 17],
+        0x06 => &[0, 5, 6, 7, 20],
         0x07 => &[0, 4, 5, 6, 7],
+        0x08 => &[0, 1, 2, 5, 18],
         0x09 => &[0, 5, 10],
         0x0A => &[0, 5, 12],
         0x0B => &[0],
@@ -263,6 +264,7 @@ fn possible(kind: u8) -> &'static [u32] {
         0x11 | 0x21 | 0x31 | 0x41 => &[0, 1, 2, 4, 5, 13],
         0x12 | 0x32 | 0x42 => &[0, 1, 2, 4, 5, 6, 7, 8, 14],
         0x13 => &[0, 1, 2, 11],
+        0x14 | 0x24 | 0x34 | 0x44 => &[0, 1, 2, 5, 19],
         0x22 => &[0, 1, 2, 4, 5, 6, 7, 8, 10, 14],
         0x23 => &[0, 1, 2, 5, 6, 9],
         0x33 => &[0, 1, 2, 4],

@@ -138,7 +138,7 @@ pub fn abort_object(s: &mut [u8], used: u8, count: u32, first: u8, i: u32) -> u8
     }
     let v = moves::first_in(s, first as usize + i as usize);
     if v == 0 {
-        return 12;
+        return 19;
     }
     ending::end_wait(s, 2, v as usize - 1);
     moves::choose(s);

@@ -16,9 +16,9 @@ use Rattle.rules.specs.Table.{Table, freshTable, taskOf, isAble, works, 
 use Rattle.rules.specs.Move.{leave, join, stays, put, rotate, next, freshIn, ended, endedAll, chosen, peerBelow}
 use Rattle.rules.specs.Quantum.{quantumOf, defaultAnswer, setDefault}
 use Rattle.rules.specs.Task.{createAnswer, create, suspendAnswer, suspend, resumeAnswer, resume}
-use Rattle.rules.specs.Time.{delayAnswer, delay}
+use Rattle.rules.specs.Time.{yieldAnswer, delayAnswer, delay, delayResumeAnswer}
 use Rattle.rules.specs.Lock.{lockAnswer, lock, unlockAnswer, unlock}
-use Rattle.rules.specs.Object.{objectCreateAnswer, blocked, waits, taken}
+use Rattle.rules.specs.Object.{objectCreateAnswer, objectAbortAnswer, blocked, waits, taken}
 use Rattle.rules.specs.Semaphore as semaphore
 use Rattle.rules.specs.Mutex.{handed, released}
 use Rattle.rules.specs.Mutex as mutex
@@ -31,7 +31,7 @@ use Rattle.rules.specs.Step.{Outcome, answerTo, changeBy, toldBy, forInt
 use Rattle.rules.specs.Kinds.{toldIn, widths, ofKind, reading, spelled}
 use Rattle.rules.specs.Tape.{little, sum, numbers, bodyLength, callIn, decimal, runner, line, printedOf, printed, tape}
 use Rattle.rules.specs.declared.Call.{Call}
-use Rattle.rules.specs.declared.Call.the-variants.{TaskCreate, Suspend, Resume, Delay, Lock, Unlock, Tick, SetDefaultQuantum, SemaphoreCreate, SemaphoreWait, SemaphorePost, MutexCreate, MutexWait, MutexPost, GroupCreate, GroupWait, GroupPost, ChannelCreate, ChannelWait, ChannelPost, ChannelFlush}
+use Rattle.rules.specs.declared.Call.the-variants.{TaskCreate, Suspend, Resume, Yield, Delay, DelayResume, Lock, Unlock, Tick, SetDefaultQuantum, SemaphoreCreate, SemaphoreWait, SemaphorePost, SemaphoreAbort, MutexCreate, MutexWait, MutexPost, MutexAbort, GroupCreate, GroupWait, GroupPost, GroupAbort, ChannelCreate, ChannelWait, ChannelPost, ChannelAbort, ChannelFlush}
 
 -- ---- calls that tasks make, one after another, on sound tables
 
@@ -150,6 +150,10 @@ front-posted = after freshTable (TaskCreate 1 5 0 ∷ ChannelCreate 0 32 ∷ Cha
 abbrev flushes : Table → Outcome
 flushes t = serve (ChannelFlush 0) false t
 
+-- Task 1 is alone, and there is one object of each kind.
+abbrev pub lone-task : Table
+lone-task = after freshTable (TaskCreate 1 5 0 ∷ SemaphoreCreate 0 0 ∷ MutexCreate 0 ∷ GroupCreate 0 0 ∷ ChannelCreate 0 1 ∷ [])
+
 -- Who runs after each of six ticks.
 abbrev six-ticks : Table → List ℕ
 six-ticks t = runs t (many 6 Tick)
@@ -193,7 +197,7 @@ pub record Bench : Type 0 where
   -- P10. "Tick on the fresh table: 0, counter 1, none."
   pub p10 : (answers freshTable (Tick ∷ []) ≡ 0 ∷ []) × (after freshTable (Tick ∷ []) .tick ≡ 1) × (runs freshTable (Tick ∷ []) ≡ 0 ∷ [])
   -- Each of these tables is sound, so `serve` is what the kernel does there.
-  pub sound : (isSound p2-table ≡ true) × (isSound p3-table ≡ true) × (isSound p4-table ≡ true) × (isSound p5-table ≡ true) × (isSound p8-table ≡ true) × (isSound suspended-waiter ≡ true) × (isSound reader-waits ≡ true) × (isSound two-wait ≡ true) × (isSound decoder-comes ≡ true) × (isSound (takes-frames 3) ≡ true) × (isSound front-posted ≡ true)
+  pub sound : (isSound p2-table ≡ true) × (isSound p3-table ≡ true) × (isSound p4-table ≡ true) × (isSound p5-table ≡ true) × (isSound p8-table ≡ true) × (isSound suspended-waiter ≡ true) × (isSound reader-waits ≡ true) × (isSound two-wait ≡ true) × (isSound decoder-comes ≡ true) × (isSound (takes-frames 3) ≡ true) × (isSound front-posted ≡ true) × (isSound lone-task ≡ true)
   -- An easy slip that those ten do not show: "A suspended waiter dropped from its queue." It stays there and is given the semaphore,
   -- and is able once it is resumed.
   pub waits-on : firstIn (semaphoreQueue 0) suspended-waiter ≡ written 1
@@ -220,9 +224,14 @@ pub record Bench : Type 0 where
   -- "A post goes to the end or to the front"; "Flush empties the queue and tells how many messages went"
   pub front-first : present front-posted 0 ≡ 9 ∷ 7 ∷ 0 ∷ []
   pub frames-flushed : (flushes front-posted .further ≡ 3) × (present (flushes front-posted .table) 0 ≡ []) × (flushes (flushes front-posted .table) .further ≡ 0)
+  -- "Service staff who hear "12" by telephone cannot tell an unpaired unlock from a lone yield": each has a number of its own.
+  pub by-telephone : answers lone-task (Unlock ∷ Resume 1 ∷ DelayResume 1 ∷ Yield ∷ []) ≡ 12 ∷ 17 ∷ 18 ∷ 20 ∷ []
+  pub nobody-to-abort : answers lone-task (SemaphoreAbort 0 ∷ MutexAbort 0 ∷ GroupAbort 0 ∷ ChannelAbort 0 ∷ []) ≡ 19 ∷ 19 ∷ 19 ∷ 19 ∷ []
+  -- "each in 12's place in the order": behind 2, and a yield's behind 7
+  pub in-its-place : answers lone-task (Resume 2 ∷ DelayResume 2 ∷ ChannelAbort 1 ∷ Lock ∷ Yield ∷ []) ≡ 2 ∷ 2 ∷ 2 ∷ 0 ∷ 7 ∷ []
 
 pub bench : Bench
-unfolding firstAt later push pull opened closed leads smallest fresh walkOn freshTable isAble placeOf works leave join stays put rotate holderOf next freshIn ended endedAll chosen peerBelow quantumOf defaultAnswer setDefault createAnswer create suspendAnswer suspend resumeAnswer resume delayAnswer delay lockAnswer lock unlockAnswer unlock objectCreateAnswer blocked waits taken semaphore.create semaphore.waitAnswer semaphore.wait semaphore.postAnswer semaphore.post mutex.create mutex.waitAnswer mutex.wait mutex.postAnswer handed released mutex.post meeting isMet consumed woken group.create group.waitAnswer group.wait group.postAnswer group.post present laid holding delivered channel.createAnswer channel.create channel.waitAnswer channel.wait channel.postAnswer channel.post channel.flushAnswer channel.flush turned dueEnded dueBelow ticked answerTo changeBy toldBy forInterrupts answer effect serve toldIn widths ofKind reading spelled little sum numbers bodyLength callIn decimal runner line printedOf printed tape step count mayPrecede fits isOrdered each isShaped marksIn isTaskInRange isNoTask isNoSemaphore isNoMutex isNoGroup isNoChannel asksIn isSoundTask isSoundSemaphore isSoundMutex isSoundGroup isSoundChannel mayWait ofState eachOf isSoundWait isSoundObjects isSoundQueues isWorkedOut isSoundNumbers isSoundWithin isSoundRuns isSound after answers runs
+unfolding firstAt later push pull opened closed leads smallest fresh walkOn freshTable isAble placeOf works leave join stays put rotate holderOf next freshIn ended endedAll chosen peerBelow quantumOf defaultAnswer setDefault createAnswer create suspendAnswer suspend resumeAnswer resume yieldAnswer delayAnswer delay delayResumeAnswer lockAnswer lock unlockAnswer unlock objectCreateAnswer objectAbortAnswer blocked waits taken semaphore.create semaphore.waitAnswer semaphore.wait semaphore.postAnswer semaphore.post mutex.create mutex.waitAnswer mutex.wait mutex.postAnswer handed released mutex.post meeting isMet consumed woken group.create group.waitAnswer group.wait group.postAnswer group.post present laid holding delivered channel.createAnswer channel.create channel.waitAnswer channel.wait channel.postAnswer channel.post channel.flushAnswer channel.flush turned dueEnded dueBelow ticked answerTo changeBy toldBy forInterrupts answer effect serve toldIn widths ofKind reading spelled little sum numbers bodyLength callIn decimal runner line printedOf printed tape step count mayPrecede fits isOrdered each isShaped marksIn isTaskInRange isNoTask isNoSemaphore isNoMutex isNoGroup isNoChannel asksIn isSoundTask isSoundSemaphore isSoundMutex isSoundGroup isSoundChannel mayWait ofState eachOf isSoundWait isSoundObjects isSoundQueues isWorkedOut isSoundNumbers isSoundWithin isSoundRuns isSound after answers runs
 bench =
     record {
       p1 = refl;
@@ -246,7 +255,7 @@ bench =
       p8 = (refl, refl);
       p9 = refl;
       p10 = (refl, refl, refl);
-      sound = (refl, refl, refl, refl, refl, refl, refl, refl, refl, refl, refl);
+      sound = (refl, refl, refl, refl, refl, refl, refl, refl, refl, refl, refl, refl);
       waits-on = refl;
       is-given = (refl, refl);
       reader-alone = refl;
@@ -264,4 +273,7 @@ bench =
       frame-given = (refl, refl, refl, refl);
       front-first = refl;
       frames-flushed = (refl, refl, refl);
+      by-telephone = refl;
+      nobody-to-abort = refl;
+      in-its-place = refl;
     }

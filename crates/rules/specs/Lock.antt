@@ -3,7 +3,7 @@
 use mathlib.Core.Bool.{cond}
 use Prim.Native.Nat.{ℕ, _+_, _-_}
 use lib.Dec.{eqb, leb}
-use Rattle.rules.specs.Sizes.{mostNested, done, nestedTooDeep, nothingToUndo}
+use Rattle.rules.specs.Sizes.{mostNested, done, nestedTooDeep, notLocked}
 use Rattle.rules.specs.Table.{Table, withDepth}
 
 unfoldable pub lockAnswer : Table → ℕ
@@ -13,7 +13,7 @@ unfoldable pub lock : Table → Table
 lock t = withDepth (t .depth + 1) t
 
 unfoldable pub unlockAnswer : Table → ℕ
-unlockAnswer t = cond (eqb (t .depth) 0) nothingToUndo done
+unlockAnswer t = cond (eqb (t .depth) 0) notLocked done
 
 unfoldable pub unlock : Table → Table
 unlock t = withDepth (t .depth - 1) t

@@ -2,7 +2,7 @@
 use mathlib.Core.Bool.{Bool, cond, not, _&&_}
 use Prim.Native.Nat.{ℕ, _-_}
 use lib.Dec.{eqb, ltb, leb}
-use Rattle.rules.specs.Sizes.{taskCount, given, aborted, objectDeleted, done, beyondRange, notInUse, inUse, badValue, whileLocked, nothingToTake, nothingToUndo, stillNeeded, blocks}
+use Rattle.rules.specs.Sizes.{taskCount, given, aborted, objectDeleted, done, beyondRange, notInUse, inUse, badValue, whileLocked, nothingToTake, noWaiter, stillNeeded, blocks}
 use Rattle.rules.specs.declared.Task.{Task}
 use Rattle.rules.specs.Table.{Table, Asked, taskOf, isUsed, firstIn, withState, withMark, withOutcome, withAsked}
 use Rattle.rules.specs.Move.{put, walk, ended, endedAll}
@@ -60,9 +60,9 @@ taken t = put (callerOf t) (withOutcome given (taskOf t (callerOf t))) t
 
 -- ---- "Abort: the first waiter leaves, the chain from the holder moves, the waiter becomes plain, outcome 2."
 
--- "abort without a waiter"
+-- "19 abort without a waiter"
 abbrev pub abortAnswer : ℕ → Table → ℕ
-abortAnswer q t = cond (not (hasWaiter q t)) nothingToUndo done
+abortAnswer q t = cond (not (hasWaiter q t)) noWaiter done
 
 unfoldable pub abort : ℕ → Table → Table
 abort q t = ended aborted (firstIn q t - 1) t

@@ -161,10 +161,9 @@ nestedTooDeep = 10
 abbrev pub countFull : ℕ
 countFull = 11
 
--- 12: "nothing to undo: unlock at depth 0, resume at suspend count 0, delay resume of a task not delayed, abort without a waiter, yield
--- without another able task of the same working priority"
-abbrev pub nothingToUndo : ℕ
-nothingToUndo = 12
+-- 12: "12 stays for unlock at depth 0"
+abbrev pub notLocked : ℕ
+notLocked = 12
 
 -- 13: "unforced delete of an object with waiters; delete of a task that holds a mutex"
 abbrev pub stillNeeded : ℕ
@@ -181,3 +180,19 @@ notSound = 15
 -- 16: "16, after 4, for a post to a full queue"
 abbrev pub channelFull : ℕ
 channelFull = 16
+
+-- "each in 12's place in the order". 17: "resume of a task not suspended"
+abbrev pub notSuspended : ℕ
+notSuspended = 17
+
+-- 18: "delay resume of a task not delayed"
+abbrev pub notDelayed : ℕ
+notDelayed = 18
+
+-- 19: "abort without a waiter"
+abbrev pub noWaiter : ℕ
+noWaiter = 19
+
+-- 20: "yield without a peer", another able task of the same working priority
+abbrev pub noPeer : ℕ
+noPeer = 20

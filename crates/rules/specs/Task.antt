@@ -3,7 +3,7 @@
 use mathlib.Core.Bool.{Bool, true, false, cond, not, _&&_, _||_}
 use Prim.Native.Nat.{ℕ, zero, suc, _+_, _-_}
 use lib.Dec.{eqb, ltb, leb}
-use Rattle.rules.specs.Sizes.{taskCount, mutexCount, lastPriority, mostNested, mostQuantum, done, beyondRange, notInUse, inUse, badValue, whileLocked, nestedTooDeep, nothingToUndo, stillNeeded}
+use Rattle.rules.specs.Sizes.{taskCount, mutexCount, lastPriority, mostNested, mostQuantum, done, beyondRange, notInUse, inUse, badValue, whileLocked, nestedTooDeep, notSuspended, stillNeeded}
 use Rattle.rules.specs.declared.Task.{Task}
 use Rattle.rules.specs.Table.{Table, taskOf, mutexOf, isUsed, written, noTask, withUsed, withBase, withWork, withSuspend, withQuantum, withLeft}
 use Rattle.rules.specs.Move.{put, walk, next, isRunning}
@@ -73,9 +73,9 @@ suspendAnswer i t =
 unfoldable pub suspend : ℕ → Table → Table
 suspend i t = put i (withSuspend (taskOf t i .suspend + 1) (taskOf t i)) t
 
--- "resume at suspend count 0"
+-- "17 resume of a task not suspended"
 unfoldable pub resumeAnswer : ℕ → Table → ℕ
-resumeAnswer i t = onTask i t (cond (eqb (taskOf t i .suspend) 0) nothingToUndo done)
+resumeAnswer i t = onTask i t (cond (eqb (taskOf t i .suspend) 0) notSuspended done)
 
 unfoldable pub resume : ℕ → Table → Table
 resume i t = put i (withSuspend (taskOf t i .suspend - 1) (taskOf t i)) t

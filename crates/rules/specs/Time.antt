@@ -2,7 +2,7 @@
 use mathlib.Core.Bool.{cond, not}
 use Prim.Native.Nat.{ℕ, _+_, _-_, _%_}
 use lib.Dec.{eqb}
-use Rattle.rules.specs.Sizes.{ticksRound, delayed, given, done, badValue, noneRunning, whileLocked, nothingToUndo}
+use Rattle.rules.specs.Sizes.{ticksRound, delayed, given, done, badValue, noneRunning, whileLocked, notDelayed, noPeer}
 use Rattle.rules.specs.Table.{Table, taskOf, withState, withMark}
 use Rattle.rules.specs.Move.{put, rotate, ended, hasPeer}
 use Rattle.rules.specs.Task.{onTask, isLocked}
@@ -20,12 +20,12 @@ markIn n t = (t .tick + n) % ticksRound
 
 -- ---- "Yield: the caller goes behind its equals, left = quantum."
 
--- "yield 7 before 12"; "yield without another able task of the same working priority"
+-- "yield 7 before" 20, "yield without a peer": without "another able task of the same working priority"
 unfoldable pub yieldAnswer : Table → ℕ
 yieldAnswer t =
     byCaller t
     (cond (isLocked t) whileLocked
-    (cond (not (hasPeer (callerOf t) t)) nothingToUndo done))
+    (cond (not (hasPeer (callerOf t) t)) noPeer done))
 
 unfoldable pub yield : Table → Table
 yield t = rotate (callerOf t) t
@@ -41,9 +41,9 @@ delay n t = put (callerOf t) (withState delayed 0 (withMark 1 (markIn n t) (task
 
 -- ---- "Delay resume ends a delay, outcome 0."
 
--- "delay resume of a task not delayed"
+-- "18 delay resume of a task not delayed"
 unfoldable pub delayResumeAnswer : ℕ → Table → ℕ
-delayResumeAnswer i t = onTask i t (cond (not (eqb (taskOf t i .state) delayed)) nothingToUndo done)
+delayResumeAnswer i t = onTask i t (cond (not (eqb (taskOf t i .state) delayed)) notDelayed done)
 
 unfoldable pub delayResume : ℕ → Table → Table
 delayResume i t = ended given i t

@@ -171,7 +171,7 @@ pub fn resume_task(s: &mut [u8], i: u32) -> u8
     }
     let n = tasks::get_suspend(s, i as usize);
     if n == 0 {
-        return 12;
+        return 17;
     }
     suspend_to(s, i as usize, n - 1);
     moves::choose(s);

@@ -32,7 +32,7 @@ pub fn yield_turn(s: &mut [u8]) -> u8
     }
     let i = numbers::caller_of(s);
     if !peer::has_peer(s, i) {
-        return 12;
+        return 20;
     }
     moves::rotate_task(s, i);
     moves::choose(s);
@@ -70,7 +70,7 @@ pub fn delay_resume(s: &mut [u8], i: u32) -> u8
         return 2;
     }
     if !(tasks::get_state(s, i as usize) == 1) {
-        return 12;
+        return 18;
     }
     ending::end_wait(s, 0, i as usize);
     moves::choose(s);

@@ -109,9 +109,9 @@ impl Kernel {
     }
 
     /// "*Abort*: the first waiter leaves, the chain from the holder moves, the waiter becomes plain,
-    /// outcome 2." "12: [..] abort without a waiter"
+    /// outcome 2." "19 abort without a waiter", of any object
     pub(super) fn abort(&mut self, place: Place) -> Answer {
-        let first = self.queue(place).first().copied().ok_or(12u32)?;
+        let first = self.queue(place).first().copied().ok_or(19u32)?;
         self.end_wait(first, 2);
         Ok(0)
     }

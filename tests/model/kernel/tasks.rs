@@ -69,10 +69,10 @@ impl Kernel {
         Ok(0)
     }
 
-    /// "*resume* takes 1"
+    /// "*resume* takes 1". "17 resume of a task not suspended"
     pub(super) fn resume(&mut self, n: u32) -> Answer {
         let t = self.task(n)?;
-        refuse(self.tasks[t].suspends == 0, 12)?;
+        refuse(self.tasks[t].suspends == 0, 17)?;
         self.tasks[t].suspends -= 1;
         self.enter_if_able(t);
         Ok(0)

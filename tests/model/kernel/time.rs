@@ -3,11 +3,12 @@ use super::calls::{refuse, Answer};
 use super::{Kernel, State, MOST, TASKS};
 
 impl Kernel {
-    /// "*Yield*: the caller goes behind its equals, left = quantum." "yield 7 before 12"
+    /// "*Yield*: the caller goes behind its equals, left = quantum." "20 yield without a peer; each in 12's place
+    /// in the order": "yield 7 before 12"
     pub(super) fn yield_(&mut self) -> Answer {
         let caller = self.caller()?;
         refuse(self.depth > 0, 7)?;
-        refuse(!self.has_peer(caller), 12)?;
+        refuse(!self.has_peer(caller), 20)?;
         self.go_behind(caller);
         self.tasks[caller].left = self.tasks[caller].quantum;
         Ok(0)
@@ -24,10 +25,10 @@ impl Kernel {
         Ok(0)
     }
 
-    /// "*Delay resume* ends a delay, outcome 0."
+    /// "*Delay resume* ends a delay, outcome 0." "18 delay resume of a task not delayed"
     pub(super) fn delay_resume(&mut self, n: u32) -> Answer {
         let t = self.task(n)?;
-        refuse(self.tasks[t].state != State::Delayed, 12)?;
+        refuse(self.tasks[t].state != State::Delayed, 18)?;
         self.end_wait(t, 0);
         Ok(0)
     }
@@ -38,6 +39,7 @@ impl Kernel {
         Ok(0)
     }
 
+    /// "12 stays for unlock at depth 0"
     pub(super) fn unlock(&mut self) -> Answer {
         refuse(self.depth == 0, 12)?;
         self.depth -= 1;

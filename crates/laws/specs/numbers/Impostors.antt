@@ -8,7 +8,7 @@ use mathlib.Core.Bool.{Bool, true, false, true≢false}
 use mathlib.Core.List.{[], _∷_}
 use Prim.Native.Nat.{ℕ, _<_}
 use native.Mathlib.Omega.{arith}
-use Rattle.rules.specs.Sizes.{taskCount, done, nothingToUndo}
+use Rattle.rules.specs.Sizes.{taskCount, done, notLocked}
 use Rattle.rules.specs.Table.{Table, freshTable, taskOf, semaphoreOf, mutexOf, holderOf}
 use Rattle.rules.specs.Chain.{Fresh}
 use Rattle.rules.specs.Move.{next, baseOf}
@@ -105,7 +105,7 @@ locks : (step Lock false freshTable .answer ≡ done) × (step Lock false freshT
 unfolding serve answer answerTo lockAnswer toldIn spelled forInterrupts effect changeBy lock chosen freshTable
 locks = let e = step-serve fresh-sound Lock false in (ap (λ (o : Outcome). o .answer) e, ap (λ (o : Outcome). o .table .depth) e)
 
-refuses : step Unlock false freshTable .answer ≡ nothingToUndo
+refuses : step Unlock false freshTable .answer ≡ notLocked
 unfolding serve answer answerTo unlockAnswer toldIn spelled forInterrupts freshTable
 refuses = ap (λ (o : Outcome). o .answer) (step-serve fresh-sound Unlock false)
 

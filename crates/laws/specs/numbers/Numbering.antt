@@ -12,7 +12,7 @@ use borrow.Author.Tests.{eqb-true, leb-true}
 use Rattle.queue.specs.Slots.{firstAt, same}
 use Rattle.rules.specs.Sizes.{taskCount, channelCount, testCount, done, beyondRange, notInUse, inUse, badValue, byInterrupt, noneRunning, whileLocked, nothingToTake, notSound}
 use Rattle.rules.specs.Table.{Table, taskOf, semaphoreOf, mutexOf, channelOf, isUsed}
-use Rattle.rules.specs.Decides.{Decides, equals, at-most, itself, fails, both, each-one}
+use Rattle.rules.specs.Decides.{Decides, equals, at-most, itself, fails, both}
 use Rattle.rules.specs.Tested.{sound}
 use Rattle.rules.specs.Task.{onTask, createAnswer, deleteAnswer, priorityAnswer, suspendAnswer, resumeAnswer}
 use Rattle.rules.specs.Time.{callerOf, byCaller, yieldAnswer, delayAnswer, delayResumeAnswer}
@@ -24,14 +24,14 @@ use Rattle.rules.specs.Semaphore as semaphore
 use Rattle.rules.specs.Mutex as mutex
 use Rattle.rules.specs.Group as group
 use Rattle.rules.specs.Channel as channel
-use Rattle.rules.specs.Sound.{Each, each, isSound}
+use Rattle.rules.specs.Sound.{isSound}
 use Rattle.rules.specs.Step.{answerTo, forInterrupts, answer, serve, step}
 use Rattle.rules.specs.declared.Call.{Call}
 use Rattle.laws.specs.queues.Put.{pick}
 use Rattle.laws.specs.numbers.Presumes.{interrupted, not-not, too-great, no-quantum, wrongly, no-capacity, channel-create-is, locked, runs-locked, answers, accepts}
 use Rattle.laws.specs.numbers.Found.{peer, holding}
 use Rattle.laws.specs.numbers.Numbers.{paperOrder, rank, Thing, countOf, numberOf, usedIn, Creates, aTask, aSemaphore, aMutex, aGroup, aChannel, Deletes, semaphoreDelete, mutexDelete, groupDelete, channelDelete, AsksFor, semaphoreWait, mutexWait, groupWait, channelWait, Aborts, semaphoreAbort, mutexAbort, groupAbort, channelAbort, On, taskDelete, changePriority, suspend, resume, delayResume, toDelete, toAsk, toAbort, semaphorePost, mutexPost, groupPost, channelPost, channelFlush, FindsNothing, counted, held, unmet, noMessage, Gets, Answered}
-use Rattle.laws.specs.numbers.Numbers.{unsound, interrupts, yieldByNone, delayByNone, waitByNone, mutexPostByNone, beyond, unused, used, createBase, changeBase, badForce, badBlock, noTicks, createQuantum, defaultZero, defaultAbove, waitNoMask, fifthTest, badConsume, postNoMask, badOn, badCapacity, badFront, noRoom, nonBlocking, lockedYield, lockedDelay, lockedWait, lockedSuspend, lockedDelete, foreign, nestedMutex, nestedLock, nestedSuspend, full, unlocked, notSuspended, notDelayed, noWaiter, noPeer, hasWaiters, holder, waits, accepted}
+use Rattle.laws.specs.numbers.Numbers.{unsound, interrupts, yieldByNone, delayByNone, waitByNone, mutexPostByNone, beyond, unused, used, createBase, changeBase, badForce, badBlock, noTicks, createQuantum, defaultZero, defaultAbove, waitNoMask, fifthTest, badConsume, postNoMask, badOn, badCapacity, badFront, noRoom, nonBlocking, lockedYield, lockedDelay, lockedWait, lockedSuspend, lockedDelete, foreign, nestedMutex, nestedLock, nestedSuspend, full, unlocked, unsuspended, undelayed, unawaited, alone, hasWaiters, holder, waits, accepted}
 
 -- ---- no condition of an earlier number holds
 
@@ -107,11 +107,7 @@ record NoLater (interrupt : Bool) (t : Table) (n : ℕ) (c : Call) : Type 0 wher
 no-later : {interrupt : Bool} {t : Table} {n : ℕ} (c : Call) → Soon n (cond (isSound t) (cond (interrupt && not (forInterrupts c)) byInterrupt (answerTo c t)) notSound) → NoLater interrupt t n c
 no-later {interrupt} {t} {n} c s = record { comes = subst (λ (x : ℕ). rank x ≤ rank n) (sym (whole c interrupt t)) (s .soon) }
 
--- Each number is in the order, and can be read off it.
-listed : Each 17 (λ n. rank n ≤ rank done)
-unfolding rank paperOrder firstAt each
-listed = each-one {p = λ n. leb (rank n) (rank done)} (λ n l. at-most) .holds refl
-
+-- A number of the order can be read off it.
 found : (v : ℕ) (l : List ℕ) → firstAt (same v) l < length l → getD l (firstAt (same v) l) 0 ≡ v
 unfolding firstAt
 found v [] h = absurd (not-suc-le-zero h)
@@ -241,14 +237,14 @@ module _ (t : Table) where
     rows (nestedSuspend {i} h) = own refl (on-task refl t i (past (runs-locked i t) (within whileLocked refl) (hit _ at-most h)))
     rows (full {s} h) = own refl (on-one refl semaphores t s (hit _ at-most h))
     rows (unlocked z) = own refl (hit _ equals z)
-    rows (notSuspended {i} z) = own refl (on-task refl t i (hit _ equals z))
-    rows (notDelayed {i} d) = own refl (on-task refl t i (hit _ (fails equals) d))
-    rows (noWaiter {f = f} {o} a z) = own refl (rw (aborts-is a t) (on-one refl f t o (hit _ (not-not equals) z)))
-    rows (noPeer n) = own refl (by-caller refl t (past (locked t) (within whileLocked refl) (hit _ (fails (peer (callerOf t) t)) n)))
+    rows (unsuspended {i} z) = own refl (on-task refl t i (hit _ equals z))
+    rows (undelayed {i} d) = own refl (on-task refl t i (hit _ (fails equals) d))
+    rows (unawaited {f = f} {o} a z) = own refl (rw (aborts-is a t) (on-one refl f t o (hit _ (not-not equals) z)))
+    rows (alone n) = own refl (by-caller refl t (past (locked t) (within whileLocked refl) (hit _ (fails (peer (callerOf t) t)) n)))
     rows (hasWaiters {f = f} {o} {force} x z d) = own refl (rw (deletes-is x t) (on-one refl f t o (yes-no refl force (hit _ (both equals (fails equals)) (z, d)))))
     rows (holder {i} h) = own refl (on-task refl t i (past (runs-locked i t) (within whileLocked refl) (hit _ (holding i t) h)))
     rows (waits {block} f) = own refl (nothing-start refl f (past (equals {x = block} {y = 0}) (within nothingToTake refl) (past (locked t) (within whileLocked refl) itself-soon)))
-    rows {c = c} accepted = own refl (record { soon = listed (answerTo c t) (omega (arith, answers interrupt t c .small)) })
+    rows {c = c} accepted = own refl (record { soon = answers interrupt t c .listed })
 
 -- ---- the law
 

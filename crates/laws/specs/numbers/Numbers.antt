@@ -1,6 +1,6 @@
 -- "Answer numbers", as a statement: for each number the calls that can get it and when, and the order in which the numbers come. The
 -- answer is the first number in that order whose condition holds, and `Numbering` proves that it is what `step` answers.
--- To read it: each line of `Gets` is a row. Of `unlocked : t .depth ≡ 0 → Gets interrupt t nothingToUndo Unlock` it says: where the
+-- To read it: each line of `Gets` is a row. Of `unlocked : t .depth ≡ 0 → Gets interrupt t notLocked Unlock` it says: where the
 -- depth is 0, the condition of 12 holds of the call Unlock. No row names 12 and Lock, so Lock never gets it. `A → B → C` is "where A and
 -- B, C", `≢` is "is not", and `Empty q t` is "no task stands in queue q". A row of `Deletes c f o force` is about each call c that deletes
 -- number o of a family f, as SemaphoreDelete, MutexDelete, GroupDelete and ChannelDelete do, and `waitersOf f o` is the queue of that
@@ -11,7 +11,7 @@ use mathlib.Core.Bool.{Bool, true, false}
 use mathlib.Core.List.{List, [], _∷_}
 use Prim.Native.Nat.{ℕ, _≤_, _<_}
 use Rattle.queue.specs.Slots.{firstAt, same}
-use Rattle.rules.specs.Sizes.{taskCount, mutexCount, lastPriority, mostQuantum, mostNested, mostCount, mostMessages, testCount, delayed, done, beyondRange, notInUse, inUse, badValue, byInterrupt, noneRunning, whileLocked, nothingToTake, notItsHolder, nestedTooDeep, countFull, nothingToUndo, stillNeeded, blocks, notSound, channelFull}
+use Rattle.rules.specs.Sizes.{taskCount, mutexCount, lastPriority, mostQuantum, mostNested, mostCount, mostMessages, testCount, delayed, done, beyondRange, notInUse, inUse, badValue, byInterrupt, noneRunning, whileLocked, nothingToTake, notItsHolder, nestedTooDeep, countFull, notLocked, stillNeeded, blocks, notSound, channelFull, notSuspended, notDelayed, noWaiter, noPeer}
 use Rattle.rules.specs.Table.{Table, asking, taskOf, semaphoreOf, mutexOf, channelOf, written}
 use Rattle.rules.specs.Time.{callerOf}
 use Rattle.rules.specs.Family.{Family, waitersOf, semaphores, mutexes, groups, channels}
@@ -24,13 +24,14 @@ use Rattle.laws.specs.order.Order.{Peer}
 
 -- ---- the order
 
--- "Order: 15, 5, 6, 1, 2 or 3, 4, then those of the call: a wait 8 before 7; yield 7 before 12; task delete 7 before 13", and a post of a
--- message "16, after 4". Of 9 to 13 each call can get one number at most, so their order among themselves does not matter. 14 and 0 come
--- where nothing refuses.
+-- "Order: 15, 5, 6, 1, 2 or 3, 4, then those of the call: a wait 8 before 7; yield 7 before 12; task delete 7 before 13", a post of a message
+-- "16, after 4", and 17 to 20 "each in 12's place". Of 9 to 13 and 17 to 20 each call can get one number at most, so their order among
+-- themselves does not matter. 14 and 0 come where nothing refuses.
 unfoldable pub paperOrder : List ℕ
 paperOrder =
     notSound ∷ byInterrupt ∷ noneRunning ∷ beyondRange ∷ notInUse ∷ inUse ∷ badValue ∷ channelFull
-    ∷ nothingToTake ∷ whileLocked ∷ notItsHolder ∷ nestedTooDeep ∷ countFull ∷ nothingToUndo ∷ stillNeeded
+    ∷ nothingToTake ∷ whileLocked ∷ notItsHolder ∷ nestedTooDeep ∷ countFull
+    ∷ notLocked ∷ notSuspended ∷ notDelayed ∷ noWaiter ∷ noPeer ∷ stillNeeded
     ∷ blocks ∷ done ∷ []
 
 -- Where a number stands in that order.
@@ -172,13 +173,16 @@ pub data Gets (interrupt : Bool) (t : Table) : ℕ → Call → Type 0 where
   nestedSuspend : {i : ℕ} → mostNested ≤ taskOf t i .suspend → Gets interrupt t nestedTooDeep (Suspend i)
   -- 11: "semaphore post at count 4,294,967,295"
   full : {s : ℕ} → mostCount ≤ semaphoreOf t s .count → Gets interrupt t countFull (SemaphorePost s)
-  -- 12: "nothing to undo: unlock at depth 0, resume at suspend count 0, delay resume of a task not delayed, abort without a waiter, yield
-  -- without another able task of the same working priority"
-  unlocked : t .depth ≡ 0 → Gets interrupt t nothingToUndo Unlock
-  notSuspended : {i : ℕ} → taskOf t i .suspend ≡ 0 → Gets interrupt t nothingToUndo (Resume i)
-  notDelayed : {i : ℕ} → taskOf t i .state ≢ delayed → Gets interrupt t nothingToUndo (DelayResume i)
-  noWaiter : {c : Call} {f : Family} {o : ℕ} → Aborts c f o → Empty (waitersOf f o) t → Gets interrupt t nothingToUndo c
-  noPeer : (Peer (callerOf t) t → ⊥) → Gets interrupt t nothingToUndo Yield
+  -- 12: "12 stays for unlock at depth 0"
+  unlocked : t .depth ≡ 0 → Gets interrupt t notLocked Unlock
+  -- 17: "resume of a task not suspended"
+  unsuspended : {i : ℕ} → taskOf t i .suspend ≡ 0 → Gets interrupt t notSuspended (Resume i)
+  -- 18: "delay resume of a task not delayed"
+  undelayed : {i : ℕ} → taskOf t i .state ≢ delayed → Gets interrupt t notDelayed (DelayResume i)
+  -- 19: "abort without a waiter", of every kind of object
+  unawaited : {c : Call} {f : Family} {o : ℕ} → Aborts c f o → Empty (waitersOf f o) t → Gets interrupt t noWaiter c
+  -- 20: "yield without a peer"
+  alone : (Peer (callerOf t) t → ⊥) → Gets interrupt t noPeer Yield
   -- 13: "unforced delete of an object with waiters; delete of a task that holds a mutex"
   hasWaiters : {c : Call} {f : Family} {o force : ℕ} → Deletes c f o force → force ≡ 0 → (Empty (waitersOf f o) t → ⊥) → Gets interrupt t stillNeeded c
   holder : {i : ℕ} → Holds i t → Gets interrupt t stillNeeded (TaskDelete i)

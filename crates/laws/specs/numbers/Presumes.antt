@@ -6,7 +6,8 @@ use mathlib.Core.Bool.{Bool, true, false, cond, not, _&&_, _||_, false≢true}
 use Prim.Native.Nat.{ℕ, _≤_, _<_}
 use native.Mathlib.Omega.{arith}
 use lib.Dec.{eqb, ltb, leb}
-use Rattle.rules.specs.Sizes.{taskCount, semaphoreCount, mutexCount, groupCount, channelCount, mostMessages, testCount, lastPriority, mostNested, mostQuantum, mostCount, delayed, done, beyondRange, inUse, notSound, channelFull}
+use Rattle.queue.specs.Slots.{firstAt}
+use Rattle.rules.specs.Sizes.{taskCount, semaphoreCount, mutexCount, groupCount, channelCount, mostMessages, testCount, lastPriority, mostNested, mostQuantum, mostCount, delayed, done, beyondRange, inUse, notSound}
 use Rattle.rules.specs.Table.{Table, asking, taskOf, semaphoreOf, mutexOf, groupOf, channelOf, firstIn, written, isUsed}
 use Rattle.rules.specs.Decides.{Decides, equals, at-most, itself, fails, either, both}
 use Rattle.rules.specs.Move.{isRunning, hasPeer}
@@ -27,8 +28,8 @@ use Rattle.rules.specs.declared.Call.{Call}
 use Rattle.rules.specs.declared.Call.the-variants.{TaskCreate, TaskDelete, ChangePriority, Suspend, Resume, Yield, Delay, DelayResume, Lock, Unlock, Tick, SetDefaultQuantum, SemaphoreCreate, SemaphoreDelete, SemaphoreWait, SemaphorePost, SemaphoreAbort, MutexCreate, MutexDelete, MutexWait, MutexPost, MutexAbort, GroupCreate, GroupDelete, GroupWait, GroupPost, GroupAbort, ChannelCreate, ChannelDelete, ChannelWait, ChannelPost, ChannelAbort, ChannelFlush}
 use Rattle.laws.specs.queues.Put.{pick, pick-not}
 use Rattle.laws.specs.numbers.Found.{peer, holding}
-use Rattle.laws.specs.numbers.Numbers.{Thing, object, countOf, numberOf, usedIn, Creates, aTask, aSemaphore, aMutex, aGroup, aChannel, Deletes, semaphoreDelete, mutexDelete, groupDelete, channelDelete, AsksFor, semaphoreWait, mutexWait, groupWait, channelWait, Aborts, semaphoreAbort, mutexAbort, groupAbort, channelAbort, On, taskDelete, changePriority, suspend, resume, delayResume, toDelete, toAsk, toAbort, semaphorePost, mutexPost, groupPost, channelPost, channelFlush, FindsNothing, counted, held, unmet, noMessage, Holds, Gets}
-use Rattle.laws.specs.numbers.Numbers.{interrupts, yieldByNone, delayByNone, waitByNone, mutexPostByNone, beyond, unused, used, createBase, changeBase, badForce, badBlock, noTicks, createQuantum, defaultZero, defaultAbove, waitNoMask, fifthTest, badConsume, postNoMask, badOn, badCapacity, badFront, noRoom, nonBlocking, lockedYield, lockedDelay, lockedWait, lockedSuspend, lockedDelete, foreign, nestedMutex, nestedLock, nestedSuspend, full, unlocked, notSuspended, notDelayed, noWaiter, noPeer, hasWaiters, holder, waits, accepted}
+use Rattle.laws.specs.numbers.Numbers.{paperOrder, rank, Thing, object, countOf, numberOf, usedIn, Creates, aTask, aSemaphore, aMutex, aGroup, aChannel, Deletes, semaphoreDelete, mutexDelete, groupDelete, channelDelete, AsksFor, semaphoreWait, mutexWait, groupWait, channelWait, Aborts, semaphoreAbort, mutexAbort, groupAbort, channelAbort, On, taskDelete, changePriority, suspend, resume, delayResume, toDelete, toAsk, toAbort, semaphorePost, mutexPost, groupPost, channelPost, channelFlush, FindsNothing, counted, held, unmet, noMessage, Holds, Gets}
+use Rattle.laws.specs.numbers.Numbers.{interrupts, yieldByNone, delayByNone, waitByNone, mutexPostByNone, beyond, unused, used, createBase, changeBase, badForce, badBlock, noTicks, createQuantum, defaultZero, defaultAbove, waitNoMask, fifthTest, badConsume, postNoMask, badOn, badCapacity, badFront, noRoom, nonBlocking, lockedYield, lockedDelay, lockedWait, lockedSuspend, lockedDelete, foreign, nestedMutex, nestedLock, nestedSuspend, full, unlocked, unsuspended, undelayed, unawaited, alone, hasWaiters, holder, waits, accepted}
 
 -- ---- what is accepted
 
@@ -138,22 +139,22 @@ runs-locked i t = both (locked t) equals
 
 -- A number of the list that refuses a call on a sound table: it changes nothing, and is not 15.
 abbrev refuses : ℕ → Bool
-refuses n = leb n channelFull && (not (eqb n notSound) && not (changes n))
+refuses n = leb (rank n) (rank done) && (not (eqb n notSound) && not (changes n))
 
 -- A call is answered n: the condition of n holds, n is a number of the list and not 15, and where n changes anything the call is accepted.
 pub record Answers (interrupt : Bool) (t : Table) (c : Call) (n : ℕ) : Type 0 where
   pub why : Gets interrupt t n c
-  pub small : n ≤ channelFull
+  pub listed : rank n ≤ rank done
   pub served : n ≢ notSound
   pub holds : changes n ≡ true → Presumes c t
 
 module _ {interrupt : Bool} {t : Table} {c : Call} where
   -- A refusal changes nothing.
   refused : {n : ℕ} → refuses n ≡ true → Gets interrupt t n c → Answers interrupt t c n
-  refused e g = let (l, d) = both at-most (both (fails equals) (fails itself)) .holds e in record { why = g; small = l; served = d .0; holds = λ h. absurd (d .1 h) }
+  refused e g = let (l, d) = both at-most (both (fails equals) (fails itself)) .holds e in record { why = g; listed = l; served = d .0; holds = λ h. absurd (d .1 h) }
 
   accept : Presumes c t → Answers interrupt t c done
-  accept p = record { why = accepted; small = omega arith; served = λ e. omega arith; holds = λ e. p }
+  accept p = record { why = accepted; listed = omega arith; served = λ e. omega arith; holds = λ e. p }
 
   -- One answer or another, as the test decides.
   branch : {b : Bool} {m n : ℕ} {B : Type 0} → Decides b B → (B → Answers interrupt t c m) → ((B → ⊥) → Answers interrupt t c n) → Answers interrupt t c (cond b m n)
@@ -170,15 +171,18 @@ module _ {interrupt : Bool} {t : Table} {c : Call} where
 
   -- A thing that is to be in use, or that is to be created.
   on-it : {x : Thing} {n : ℕ} → On c x → (numberOf x < countOf x → usedIn t x ≡ 1 → Answers interrupt t c n) → Answers interrupt t c (onObject (countOf x) (numberOf x) (usedIn t x) n)
+  unfolding rank paperOrder firstAt
   on-it {x} o on = past at-most refl (beyond (inl o)) λ (r : countOf x ≤ numberOf x → ⊥). unless equals refl (unused o) λ u. on (omega arith) u
 
   new-one : {x : Thing} {n : ℕ} → Creates c x → (numberOf x < countOf x → usedIn t x ≢ 1 → Answers interrupt t c n)
       → Answers interrupt t c (cond (leb (countOf x) (numberOf x)) beyondRange (cond (isUsed (usedIn t x)) inUse n))
+  unfolding rank paperOrder firstAt
   new-one {x} o on = past at-most refl (beyond (inr o)) λ (r : countOf x ≤ numberOf x → ⊥). past equals refl (used o) λ u. on (omega arith) u
 
   -- A wait that finds nothing to take.
   finds-nothing : {block : ℕ} → FindsNothing t block c → (t .depth ≡ 0 → Presumes c t) → Answers interrupt t c (blockAnswer block t)
-  finds-nothing f p = past equals refl (nonBlocking f) λ b. unless equals refl (λ d. lockedWait d f) λ z. record { why = waits f; small = omega arith; served = λ e. omega arith; holds = λ e. p z }
+  unfolding rank paperOrder firstAt
+  finds-nothing f p = past equals refl (nonBlocking f) λ b. unless equals refl (λ d. lockedWait d f) λ z. record { why = waits f; listed = at-most .holds refl; served = λ e. omega arith; holds = λ e. p z }
 
   -- ---- the calls that every family has
 
@@ -187,22 +191,22 @@ module _ {interrupt : Bool} {t : Table} {c : Call} where
   create-answers {f} {o} x p = new-one {x = object f o} x λ l u. accept (p (l, u))
 
   delete-answers : {f : Family} {o force : ℕ} → Deletes c f o force → (o < f .count → Presumes c t) → Answers interrupt t c (objectDeleteAnswer f o force t)
-  unfolding countOf numberOf usedIn objectDeleteAnswer
+  unfolding rank paperOrder firstAt countOf numberOf usedIn objectDeleteAnswer
   delete-answers {f} {o} {force} d p =
       on-it {x = object f o} (toDelete d) λ l u. past at-most refl (badForce d) λ n. past (both equals (fails equals)) refl (λ h. hasWaiters d (h .0) (h .1)) λ n. accept (p l)
 
   abort-answers : {f : Family} {o : ℕ} → Aborts c f o → (MayAbort f o t → Presumes c t) → Answers interrupt t c (objectAbortAnswer f o t)
-  unfolding countOf numberOf usedIn objectAbortAnswer
-  abort-answers {f} {o} a p = on-it {x = object f o} (toAbort a) λ l u. past (not-not equals) refl (noWaiter a) λ d. accept (p (l, d))
+  unfolding rank paperOrder firstAt countOf numberOf usedIn objectAbortAnswer
+  abort-answers {f} {o} a p = on-it {x = object f o} (toAbort a) λ l u. past (not-not equals) refl (unawaited a) λ d. accept (p (l, d))
 
   wait-answers : {f : Family} {o block n : ℕ} → AsksFor c f o block → (t .running ≢ 0 → o < f .count → f .used t o ≡ 1 → Answers interrupt t c n) → Answers interrupt t c (waitAnswerOn f o block n t)
-  unfolding countOf numberOf usedIn
+  unfolding rank paperOrder firstAt countOf numberOf usedIn
   wait-answers {f} {o} w on = past equals refl (waitByNone w) λ c. on-it {x = object f o} (toAsk w) λ l u. past at-most refl (badBlock w) λ b. on c l u
 
 module _ (interrupt : Bool) (t : Table) where
   -- Each call made by a task.
   pub answers : (c : Call) → Answers interrupt t c (answerTo c t)
-  unfolding countOf numberOf usedIn answerTo createAnswer deleteAnswer priorityAnswer suspendAnswer resumeAnswer yieldAnswer delayAnswer delayResumeAnswer lockAnswer unlockAnswer defaultAnswer semaphore.waitAnswer semaphore.postAnswer mutex.waitAnswer mutex.postAnswer group.waitAnswer group.postAnswer channel.waitAnswer channel.postAnswer channel.flushAnswer
+  unfolding rank paperOrder firstAt countOf numberOf usedIn answerTo createAnswer deleteAnswer priorityAnswer suspendAnswer resumeAnswer yieldAnswer delayAnswer delayResumeAnswer lockAnswer unlockAnswer defaultAnswer semaphore.waitAnswer semaphore.postAnswer mutex.waitAnswer mutex.postAnswer group.waitAnswer group.postAnswer channel.waitAnswer channel.postAnswer channel.flushAnswer
   answers (TaskCreate i base quantum) =
       new-one (aTask {i = i}) λ l u.
       past (too-great base quantum) refl (⊎-elim createBase createQuantum) λ v.
@@ -220,14 +224,14 @@ module _ (interrupt : Bool) (t : Table) where
       past (runs-locked i t) refl (λ h. lockedSuspend (h .0) (h .1)) λ other.
       past at-most refl nestedSuspend λ (n : mostNested ≤ taskOf t i .suspend → ⊥).
       accept (l, u, (λ d e. other (d, e)), omega arith)
-  answers (Resume i) = on-it (resume {i = i}) λ l u. past equals refl notSuspended λ n. accept (l, u, n)
+  answers (Resume i) = on-it (resume {i = i}) λ l u. past equals refl unsuspended λ n. accept (l, u, n)
   answers Yield =
       past equals refl yieldByNone λ c.
       unless equals refl lockedYield λ z.
-      unless (peer (callerOf t) t) refl noPeer λ p.
+      unless (peer (callerOf t) t) refl alone λ p.
       accept (c, z, peer (callerOf t) t .passes p)
   answers (Delay n) = past equals refl delayByNone λ c. past equals refl noTicks λ d. unless equals refl lockedDelay λ z. accept (c, d, z)
-  answers (DelayResume i) = on-it (delayResume {i = i}) λ l u. unless equals refl notDelayed λ e. accept (l, u, e)
+  answers (DelayResume i) = on-it (delayResume {i = i}) λ l u. unless equals refl undelayed λ e. accept (l, u, e)
   answers Lock = past at-most refl nestedLock λ (n : mostNested ≤ t .depth → ⊥). accept (omega arith)
   answers Unlock = past equals refl unlocked λ d. accept d
   answers Tick = accept tt
@@ -284,5 +288,5 @@ module _ (interrupt : Bool) (t : Table) where
 
 -- Each call, whoever made it.
 pub accepts : (c : Call) (interrupt : Bool) (t : Table) → Answers interrupt t c (answer c interrupt t)
-unfolding answer
+unfolding rank paperOrder firstAt answer
 accepts c interrupt t = past (interrupted interrupt c) refl (λ h. interrupts (h .0) (h .1)) λ n. answers interrupt t c
