@@ -30,7 +30,7 @@ struct columns {
         uint8_t used[PLAIN_OBJECTS], capacity[PLAIN_OBJECTS], held[PLAIN_OBJECTS];
     } channel;
     uint8_t queue[QUEUES][PLAIN_TASKS];
-    uint8_t tick[4], default_quantum[2], depth, running;
+    uint8_t tick[4], default_quantum[2], depth, running, ready[8];
     uint8_t slots[PLAIN_OBJECTS][PLAIN_MESSAGES][4];
 };
 
@@ -46,7 +46,8 @@ _Static_assert(offsetof(struct columns, channel) == 1000, "channels");
 _Static_assert(offsetof(struct columns, queue) == 1048, "queues");
 _Static_assert(offsetof(struct columns, tick) == 2872, "tick");
 _Static_assert(offsetof(struct columns, depth) == 2878, "depth");
-_Static_assert(offsetof(struct columns, slots) == 2880, "messages");
+_Static_assert(offsetof(struct columns, ready) == 2880, "ready word");
+_Static_assert(offsetof(struct columns, slots) == 2888, "messages");
 _Static_assert(sizeof(struct columns) == NTK_IMAGE_SIZE, "size");
 
 static void put16(uint8_t at[2], uint32_t n)
@@ -59,6 +60,12 @@ static void put32(uint8_t at[4], uint32_t n)
 {
     put16(at, n & 0xFFFF);
     put16(at + 2, n >> 16);
+}
+
+static void put64(uint8_t at[8], uint64_t n)
+{
+    put32(at, (uint32_t)n);
+    put32(at + 4, (uint32_t)(n >> 32));
 }
 
 static void put_task(struct columns *to, const struct plain *k, unsigned i)
@@ -110,24 +117,33 @@ static void put_channel(struct columns *to, const struct plain *k, unsigned i)
         put32(to->slots[i][j], k->slots[i][j]);
 }
 
-/* Queue 0 is that of the able tasks; those of the channels are the last. */
+/* The head of the waiters in a queue other than 0; those of the channels are the last. */
 static unsigned head_of(unsigned queue)
 {
     enum { CHANNELS = QUEUES - PLAIN_OBJECTS };
 
-    if (queue == 0)
-        return PLAIN_ABLE;
     return queue < CHANNELS ? PLAIN_SEMAPHORE + queue - 1 : PLAIN_CHANNEL + queue - CHANNELS;
 }
 
-static void put_queue(struct columns *to, const struct plain *k, unsigned queue)
+/* The tasks behind a head go into the slots; gives the slot behind them. */
+static uint8_t *put_ring(uint8_t *slot, const struct plain *k, unsigned head)
 {
-    unsigned head = head_of(queue);
-    uint8_t *slot = to->queue[queue];
     unsigned i;
 
     for (i = k->next[head]; i != head; i = k->next[i])
         *slot++ = (uint8_t)(i + 1);
+    return slot;
+}
+
+/* Queue 0 is that of the able tasks, the most urgent level first. */
+static void put_able(struct columns *to, const struct plain *k)
+{
+    uint8_t *slot = to->queue[0];
+    unsigned bit = PLAIN_LEVELS;
+
+    while (bit-- > 0)
+        if (k->ready >> bit & 1)
+            slot = put_ring(slot, k, PLAIN_LEVEL + bit);
 }
 
 void image_of(const struct plain *k, uint8_t image[NTK_IMAGE_SIZE])
@@ -144,11 +160,13 @@ void image_of(const struct plain *k, uint8_t image[NTK_IMAGE_SIZE])
         put_group(&to, k, i);
     for (i = 0; i < PLAIN_OBJECTS; i++)
         put_channel(&to, k, i);
-    for (i = 0; i < QUEUES; i++)
-        put_queue(&to, k, i);
+    put_able(&to, k);
+    for (i = 1; i < QUEUES; i++)
+        put_ring(to.queue[i], k, head_of(i));
     put32(to.tick, k->tick);
     put16(to.default_quantum, k->default_quantum);
     to.depth = k->depth;
     to.running = k->running == PLAIN_NONE ? 0 : k->running + 1;
+    put64(to.ready, k->ready);
     memcpy(image, &to, sizeof to);
 }

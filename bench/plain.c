@@ -10,8 +10,9 @@ void plain_fresh(struct plain *k)
     unsigned i;
 
     memset(k, 0, sizeof *k);
-    for (i = 0; i < PLAIN_NODES; i++)
+    for (i = 0; i < PLAIN_LEVEL; i++)
         k->next[i] = k->prev[i] = (uint8_t)i;
+    k->next[PLAIN_LEVEL] = PLAIN_NONE;
     k->default_quantum = NTK_FRESH_QUANTUM;
     k->running = PLAIN_NONE;
 }
@@ -28,7 +29,7 @@ static inline void insert_behind(struct plain *k, unsigned at, unsigned i)
     k->prev[after] = (uint8_t)i;
 }
 
-/* Task i joins a queue, behind its equals. The head's 0 ends the search. */
+/* Task i joins a queue of waiters, behind its equals. The head's 0 ends the search. */
 static inline void join(struct plain *k, unsigned head, unsigned i)
 {
     unsigned at = k->prev[head];
@@ -37,6 +38,17 @@ static inline void join(struct plain *k, unsigned head, unsigned i)
     while (k->work[at] > p)
         at = k->prev[at];
     insert_behind(k, at, i);
+}
+
+/* The head of a level, and its bit. */
+static inline unsigned head_of(unsigned level)
+{
+    return PLAIN_LEVEL + 63 - level;
+}
+
+static inline uint64_t bit_of(unsigned head)
+{
+    return UINT64_C(1) << (head - PLAIN_LEVEL);
 }
 
 /* Task i leaves its queue; it may be in none. */
@@ -49,6 +61,32 @@ static inline void leave(struct plain *k, unsigned i)
     k->next[i] = k->prev[i] = (uint8_t)i;
 }
 
+/* Task i joins the able ones, behind those of its level. */
+static inline void join_able(struct plain *k, unsigned i)
+{
+    unsigned head = head_of(k->work[i]);
+
+    if (!(k->ready & bit_of(head))) {
+        k->ready |= bit_of(head);
+        k->next[head] = k->prev[head] = (uint8_t)head;
+    }
+    insert_behind(k, k->prev[head], i);
+}
+
+/* Task i leaves the able ones. */
+static inline void leave_able(struct plain *k, unsigned i)
+{
+    if (k->prev[i] == k->next[i]) /* both are the head: it is the last of its level */
+        k->ready &= ~bit_of(k->next[i]);
+    leave(k, i);
+}
+
+/* The first of the most urgent level; with bit 0 set too there is one in any case. */
+static inline unsigned first_able(const struct plain *k)
+{
+    return k->next[head_of((unsigned)__builtin_clzll(k->ready | 1))];
+}
+
 /* Task i, wherever it stands, works at p from now on, another priority than before, and goes behind its equals there. */
 static void set_work(struct plain *k, unsigned i, uint8_t p)
 {
@@ -56,7 +94,12 @@ static void set_work(struct plain *k, unsigned i, uint8_t p)
     uint8_t old = k->work[i];
 
     k->work[i] = p;
-    if (p < old) {
+    if (k->task[i].state == PLAIN_PLAIN) {
+        if (after != i) {
+            leave_able(k, i);
+            join_able(k, i);
+        }
+    } else if (p < old) {
         if (k->work[before] <= p) /* it is there, or in no queue */
             return;
         do
@@ -75,23 +118,17 @@ static void set_work(struct plain *k, unsigned i, uint8_t p)
     }
 }
 
-/* Task i goes behind its equals in its queue. */
-static inline void rotate(struct plain *k, unsigned i)
-{
-    unsigned after = k->next[i];
-
-    while (after < PLAIN_TASKS && k->work[after] <= k->work[i])
-        after = k->next[after];
-    leave(k, i);
-    insert_behind(k, k->prev[after], i);
-}
-
 /* Has the first able task, i, an equal? */
 static inline int has_peer(const struct plain *k, unsigned i)
 {
-    unsigned after = k->next[i];
+    return k->next[i] < PLAIN_TASKS;
+}
 
-    return after < PLAIN_TASKS && k->work[after] == k->work[i];
+/* The first able task, i, which has an equal, goes behind its equals. */
+static inline void rotate(struct plain *k, unsigned i)
+{
+    leave(k, i);
+    insert_behind(k, k->prev[head_of(k->work[i])], i);
 }
 
 /* Priorities */
@@ -181,7 +218,7 @@ static void lower_chain(struct plain *k, unsigned i)
 static inline void join_if_able(struct plain *k, unsigned i)
 {
     if (k->task[i].suspended == 0)
-        join(k, PLAIN_ABLE, i);
+        join_able(k, i);
 }
 
 /* Task i, in no queue any more, becomes plain. */
@@ -230,11 +267,12 @@ static inline void set_mark(struct plain *k, unsigned i, uint32_t ticks)
     k->marked |= UINT32_C(1) << i;
 }
 
+/* Task i, which runs, waits from now on. */
 static inline void block(struct plain *k, unsigned i, enum plain_state state, unsigned object, unsigned head, uint32_t limit)
 {
     struct plain_task *t = &k->task[i];
 
-    leave(k, i);
+    leave_able(k, i);
     t->state = (uint8_t)state;
     t->object = (uint8_t)object;
     if (limit != 0)
@@ -259,7 +297,7 @@ static unsigned task_create(struct plain *k, uint32_t a, uint32_t b, uint32_t c)
     t->base = (uint8_t)b;
     t->quantum = t->left = c == 0 ? k->default_quantum : (uint16_t)c;
     k->work[a] = (uint8_t)b;
-    join(k, PLAIN_ABLE, a);
+    join_able(k, a);
     return NTK_DONE;
 }
 
@@ -278,7 +316,10 @@ static unsigned task_delete(struct plain *k, uint32_t a)
     if (t->held)
         return NTK_STILL_NEEDED;
     h = holder_before(k, a);
-    leave(k, a);
+    if (t->state == PLAIN_PLAIN && t->suspended == 0)
+        leave_able(k, a);
+    else
+        leave(k, a);
     if (h != PLAIN_NONE) {
         t->state = PLAIN_PLAIN;
         lower_behind(k, a, h);
@@ -325,9 +366,8 @@ static unsigned suspend(struct plain *k, uint32_t a)
         return NTK_WHILE_LOCKED;
     if (t->suspended == 250)
         return NTK_TOO_DEEP;
-    t->suspended++;
-    if (t->state == PLAIN_PLAIN)
-        leave(k, a);
+    if (t->suspended++ == 0 && t->state == PLAIN_PLAIN)
+        leave_able(k, a);
     return NTK_DONE;
 }
 
@@ -373,7 +413,7 @@ static unsigned delay(struct plain *k, uint32_t a)
         return NTK_BAD_VALUE;
     if (k->depth > 0)
         return NTK_WHILE_LOCKED;
-    leave(k, i);
+    leave_able(k, i);
     k->task[i].state = PLAIN_DELAYED;
     set_mark(k, i, a);
     return NTK_DONE;
@@ -995,7 +1035,7 @@ uint64_t plain_packed(struct plain *k, uint8_t kind, uint32_t a, uint32_t b, uin
     unsigned said = serve(k, kind, a, b, c, d, e, f);
 
     if (k->depth == 0)
-        k->running = k->next[PLAIN_ABLE];
+        k->running = (uint8_t)first_able(k);
     return k->running == PLAIN_NONE ? said : (uint64_t)(k->running + 1u) << 32 | said;
 }
 
@@ -1091,7 +1131,7 @@ int plain_check(const struct plain *k)
     const uint64_t not_able = UINT64_C(0xFF) << SUSPENDED | UINT64_C(0xFF) << STATE;
     uint8_t place[PLAIN_TASKS], fresh[PLAIN_TASKS];
     uint32_t held = 0, held_twice = 0, owned = 0, through = 0;
-    uint64_t wrong = 0;
+    uint64_t wrong = 0, ready;
     unsigned queued = 0, bad = 0, heads, i;
 
     /* Each task by itself, and where it belongs. */
@@ -1119,7 +1159,7 @@ int plain_check(const struct plain *k)
             bad |= (t->mark == k->tick) & marked;
             held_twice |= held & t->held;
             held |= t->held;
-            at = word & not_able ? i : PLAIN_ABLE;
+            at = word & not_able ? i : head_of(k->work[i] % 64u); /* the priority itself is tested below */
             at = waits ? 16u * t->state + t->object : at; /* its object's head */
         }
         place[i] = (uint8_t)at;
@@ -1150,13 +1190,28 @@ int plain_check(const struct plain *k)
         bad |= (g->used & ~UINT32_C(1)) | (g->flags & (g->used - 1));
     }
     wrong |= wrong_channels(&k->channel, 0) | wrong_channels(&k->channel, 8);
-    if (wrong | bad | held_twice | (held ^ owned) | (k->default_quantum == 0))
+    if (wrong | bad | held_twice | (held ^ owned) | (k->default_quantum == 0) | (k->next[PLAIN_LEVEL] ^ PLAIN_NONE))
         return 0;
     wrong |= unused_slots(k);
 
-    /* Queues: eight heads at a time, of which only those with tasks are looked at. A walk comes back to its head, since each step is
-     * tested backwards. */
-    for (heads = PLAIN_SEMAPHORE; heads < PLAIN_NODES; heads += 8) {
+    /* The able tasks, level by level. A walk comes back to its head, since each step is tested backwards. */
+    for (ready = k->ready; ready; ready &= ready - 1) {
+        unsigned head = PLAIN_LEVEL + (unsigned)__builtin_ctzll(ready), before = head;
+
+        i = k->next[head];
+        do {
+            if (i >= PLAIN_TASKS || place[i] != head || k->prev[i] != before)
+                return 0;
+            before = i;
+            i = k->next[i];
+            queued--;
+        } while (i != head);
+        if (k->prev[head] != before)
+            return 0;
+    }
+
+    /* Waiters: eight heads at a time, of which only those with tasks are looked at. */
+    for (heads = PLAIN_SEMAPHORE; heads < PLAIN_LEVEL; heads += 8) {
         uint64_t own = UINT64_C(0x0706050403020100) + UINT64_C(0x0101010101010101) * heads;
         uint64_t next = eight(k->next + heads) ^ own, prev = eight(k->prev + heads) ^ own;
 
@@ -1186,7 +1241,7 @@ int plain_check(const struct plain *k)
                     fresh[h] = k->work[first];
                 if (place[h] >= PLAIN_MUTEX && place[h] < PLAIN_GROUP)
                     through |= UINT32_C(1) << h;
-            } else if (head < PLAIN_ABLE) {
+            } else if (head < PLAIN_NONE) {
                 if (!k->group[head - PLAIN_GROUP].used)
                     return 0;
             } else if (head >= PLAIN_CHANNEL) {
@@ -1205,6 +1260,6 @@ int plain_check(const struct plain *k)
 
     /* What runs */
     if (k->depth == 0)
-        return k->running == k->next[PLAIN_ABLE];
-    return k->depth <= 250 && (k->running == PLAIN_NONE || (k->running < PLAIN_TASKS && place[k->running] == PLAIN_ABLE));
+        return k->running == first_able(k);
+    return k->depth <= 250 && (k->running == PLAIN_NONE || (k->running < PLAIN_TASKS && place[k->running] >= PLAIN_LEVEL));
 }

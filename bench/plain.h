@@ -5,19 +5,21 @@
 
 #include <stdint.h>
 
-enum { PLAIN_TASKS = 32, PLAIN_OBJECTS = 16, PLAIN_GROUPS = 8, PLAIN_MESSAGES = 32 };
+enum { PLAIN_TASKS = 32, PLAIN_OBJECTS = 16, PLAIN_GROUPS = 8, PLAIN_MESSAGES = 32, PLAIN_LEVELS = 64 };
 
 /* Each queue is a ring of nodes through a node of its own: node i is task i, then come the heads of the queues. A task in no queue
- * is a ring by itself. The head of the able queue stands for "no task" as well: it is what an empty able queue has first. The heads of
- * a state's queues begin at 16 times the state; the seven nodes behind PLAIN_ABLE are in no use, rings by themselves. */
+ * is a ring by itself. The heads of a state's queues begin at 16 times the state; the eight nodes from PLAIN_NONE on, which stands for
+ * "no task", are in no queue. The able tasks of each level, that is of each working priority, are a queue of their own: so the first is
+ * found without a walk, and so is the end of a level. The heads stand as the bits of `ready` do, level 62 before level 61 and so on up to
+ * level 0, and each is looked at only where its bit is set; but the head of bit 0, which no level has, has PLAIN_NONE next. */
 enum {
     PLAIN_SEMAPHORE = 32,
     PLAIN_MUTEX = 48,
     PLAIN_GROUP = 64,
-    PLAIN_ABLE = 72,
-    PLAIN_NONE = PLAIN_ABLE,
+    PLAIN_NONE = 72,
     PLAIN_CHANNEL = 80,
-    PLAIN_NODES = 96
+    PLAIN_LEVEL = 96,
+    PLAIN_NODES = PLAIN_LEVEL + PLAIN_LEVELS
 };
 
 enum plain_state { PLAIN_PLAIN, PLAIN_DELAYED, PLAIN_WAITS_SEMAPHORE, PLAIN_WAITS_MUTEX, PLAIN_WAITS_FLAGS, PLAIN_WAITS_MESSAGE };
@@ -76,9 +78,10 @@ struct plain {
     struct plain_channels channel;
     struct plain_wanted wanted[PLAIN_TASKS];
     uint32_t message[PLAIN_TASKS]; /* that each was given last */
+    uint64_t ready; /* the levels that have an able task, a bit each, the top one for level 0 */
     uint8_t next[PLAIN_NODES];
     uint8_t prev[PLAIN_NODES];
-    uint8_t work[PLAIN_NODES]; /* working priorities; 0 for heads and free tasks */
+    uint8_t work[PLAIN_LEVEL]; /* working priorities; 0 for the heads of waiters and free tasks */
     uint16_t default_quantum;  /* not 0 */
     uint8_t depth;
     uint8_t running; /* PLAIN_NONE for none */

@@ -18,14 +18,14 @@ extern "C" {
 
 /* The version of this header; ntk_version() is that of the archive. A port is built right where the two are the same. */
 #define NTK_VERSION_MAJOR 1
-#define NTK_VERSION_MINOR 5
+#define NTK_VERSION_MINOR 6
 #define NTK_VERSION_PATCH 0
 #define NTK_VERSION (NTK_VERSION_MAJOR * 10000u + NTK_VERSION_MINOR * 100u + NTK_VERSION_PATCH)
 
 uint32_t ntk_version(void);
 
 /* How long an image is. */
-#define NTK_IMAGE_SIZE 4928
+#define NTK_IMAGE_SIZE 4936
 
 /* The first call of every board: any bytes at `image` become the fresh table, with nothing in use, none running and the default quantum
  * NTK_FRESH_QUANTUM, and the answer is 0. With a `length` other than NTK_IMAGE_SIZE it is 15, and no byte changes.
@@ -39,6 +39,7 @@ uint32_t ntk_fresh(uint8_t *image, size_t length);
 #define NTK_GROUPS 8    /* of 32 flags each */
 #define NTK_CHANNELS 16 /* message queues, called channels, since a queue is a row of tasks */
 #define NTK_QUEUES 57
+#define NTK_LEVELS 64   /* bits of the ready word; a level is a working priority, and none is 63 */
 
 /* Limits, each the greatest that is taken. */
 #define NTK_LAST_PRIORITY 62       /* base and working priority; 0 is the most urgent */
@@ -201,7 +202,8 @@ enum ntk_field {
     NTK_FIELD_TICK = 0xF0,             /* tick counter                                     0                 */
     NTK_FIELD_DEPTH = 0xF1,            /* lock depth                                       0                 */
     NTK_FIELD_RUNNING = 0xF2,          /* running task plus 1; 0 for none                  0                 */
-    NTK_FIELD_DEFAULT_QUANTUM = 0xF3   /* default quantum, 1 or more                       0                 */
+    NTK_FIELD_DEFAULT_QUANTUM = 0xF3,  /* default quantum, 1 or more                       0                 */
+    NTK_FIELD_READY = 0xF4             /* the ready word: the levels with an able task     0                 */
 };
 
 /* The states of a task. */
@@ -220,7 +222,11 @@ enum ntk_state { NTK_PLAIN = 0, NTK_DELAYED = 1, NTK_WAITS_SEMAPHORE = 2, NTK_WA
 /* The number of message j, 0..31, of channel c, where message 0 is the next one that is taken. */
 #define NTK_MESSAGE(c, j) (NTK_MOST_MESSAGES * (c) + (j))
 
-/* What no field shows: a field has 32 bits. */
+/* The bit of level l, 0..63, in the ready word: set exactly if an able task has this working priority. The most urgent level has the top bit,
+ * so that the first one is found by counting leading zeros. */
+#define NTK_LEVEL_BIT(l) (UINT64_C(1) << (63 - (l)))
+
+/* What no field of a sound table shows: a field has 32 bits, but for the ready word, whose lowest bit is never set. */
 #define NTK_NO_FIELD UINT64_MAX
 
 /* What a field shows in the image of `length` bytes at `image`. Any field, number, bytes and length are taken: where the field or the
@@ -288,6 +294,8 @@ enum ntk_rule {
     NTK_RULE_RUNNING_ABLE = 0xB4,       /* at a greater one an able task runs, or none   0                 */
     NTK_RULE_DEFAULT_LEAST = 0xB5,      /* the default quantum is not 0                  0                 */
     NTK_RULE_DEFAULT_MOST = 0xB6,       /* default quantum ..65535; no bytes break it    0                 */
+    NTK_RULE_READY_WORD = 0xB7,         /* ready word below 2^64; no bytes break it      0                 */
+    NTK_RULE_READY_LEVELS = 0xB8,       /* its bit is set exactly if it has an able task level 0..63       */
     NTK_RULE_WRONG_LENGTH = 0xFF        /* the length is not NTK_IMAGE_SIZE              0                 */
 };
 
@@ -360,6 +368,28 @@ static inline uint32_t ntk_running(const uint8_t *image)
 static inline uint32_t ntk_tick_count(const uint8_t *image)
 {
     return NTK_AS(uint32_t, ntk_read(NTK_FIELD_TICK, 0, image, NTK_IMAGE_SIZE));
+}
+
+/* The ready word: NTK_LEVEL_BIT(l) is set in it exactly if level l has an able task; 0 where none is able. */
+static inline uint64_t ntk_ready(const uint8_t *image)
+{
+    return ntk_read(NTK_FIELD_READY, 0, image, NTK_IMAGE_SIZE);
+}
+
+/* The most urgent level that has an able task: how many leading zeros the ready word has, NTK_LEVELS where none is able. */
+static inline uint32_t ntk_first_level(const uint8_t *image)
+{
+    uint64_t word = ntk_ready(image);
+    uint32_t level = 0, step;
+
+    if (word == 0)
+        return NTK_LEVELS;
+    for (step = 32; step > 0; step /= 2)
+        if (word >> (64 - step) == 0) {
+            word <<= step;
+            level += step;
+        }
+    return level;
 }
 
 /* No task: a number that no task has. */
@@ -464,6 +494,8 @@ static inline const char *ntk_rule_name(uint32_t rule)
     case NTK_RULE_RUNNING_ABLE: return "locked, and the running task is not able";
     case NTK_RULE_DEFAULT_LEAST: return "default quantum 0: not begun by ntk_fresh?";
     case NTK_RULE_DEFAULT_MOST: return "default quantum above 65535";
+    case NTK_RULE_READY_WORD: return "ready word above 18446744073709551615";
+    case NTK_RULE_READY_LEVELS: return "its bit of the ready word is not as the able tasks have it";
     case NTK_RULE_WRONG_LENGTH: return "wrong length";
     default: return "unknown";
     }

@@ -55,6 +55,7 @@ static void two_mutexes(void)
     call("decoder posts the frames", NTK_MUTEX_POST, FRAMES, 0, 0);
     call("output sleeps 2 ticks", NTK_DELAY, 2, 0, 0);
     printf("  the decoder still works at the reader's 20: %u\n", (unsigned)ntk_priority_of(table, DECODER));
+    printf("  so the first level with an able task is 20: %u\n", (unsigned)ntk_first_level(table));
     printf("  the holder of the clock, plus 1: %u\n", (unsigned)ntk_read(NTK_FIELD_MUTEX_HOLDER, CLOCK, table, sizeof table));
     call("decoder posts the clock", NTK_MUTEX_POST, CLOCK, 0, 0);
     call("tick", NTK_TICK | NTK_INTERRUPT, 0, 0, 0);

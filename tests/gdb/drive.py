@@ -48,9 +48,9 @@ with open(os.environ["NONTHACHAK_OUT"], "w") as out:
     show("the decoder has taken both, and waits for the next")
 
     # A semaphore with a count, one whose waiter is no task; a task that waits for what nobody knows, one without a quantum, one that is free
-    # and suspended; a mutex that is free and has a waiter; a gap in the able queue; no default quantum; one running that is no task. A channel that
-    # holds more than its capacity, and has a waiter; a free one with too great a capacity; one without any; one with a message behind those that
-    # it holds; a free one with a waiter.
+    # and suspended; a mutex that is free and has a waiter; a gap in the able queue; no default quantum; one running that is no task; ready levels
+    # that have no able task, and one that has a task and no bit. A channel that holds more than its capacity, and has a waiter; a free one with too
+    # great a capacity; one without any; one with a message behind those that it holds; a free one with a waiter.
     poke("semaphore used", 3, 1)
     poke("semaphore count", 3, 0x04030201)
     poke("semaphore used", 15, 1)
@@ -78,6 +78,7 @@ with open(os.environ["NONTHACHAK_OUT"], "w") as out:
     poke("default quantum", 0, 0)
     poke("depth", 0, 250)
     poke("running", 0, 33)
+    poke("ready", 0, 1 << 33 | 1)
     show("a broken table")
 
     show("no word", "")

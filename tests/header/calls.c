@@ -187,8 +187,8 @@ static void make_fresh(void)
     expect("bytes that a wrong length changed", 0, 0, memcmp(before, by_step, sizeof before) != 0);
     expect("the fresh image", 0, NTK_DONE, ntk_fresh(by_step, NTK_IMAGE_SIZE));
     expect("its default quantum", 0, NTK_FRESH_QUANTUM, ntk_read(NTK_FIELD_DEFAULT_QUANTUM, 0, by_step, NTK_IMAGE_SIZE));
-    for (field = 0; field < NTK_FIELD_DEFAULT_QUANTUM; field++)
-        if (ntk_read(field, 0, by_step, NTK_IMAGE_SIZE) != NTK_NO_FIELD)
+    for (field = 0; field <= NTK_FIELD_READY; field++)
+        if (field != NTK_FIELD_DEFAULT_QUANTUM && ntk_read(field, 0, by_step, NTK_IMAGE_SIZE) != NTK_NO_FIELD)
             expect("what the fresh image has in field", field, 0, ntk_read(field, 0, by_step, NTK_IMAGE_SIZE));
     expect("a tick on it", 0, NTK_DONE, ntk_step(NTK_TICK, 0, 0, 0, 0, 0, 0, by_step, NTK_IMAGE_SIZE).answer);
     memset(by_step, 0, sizeof by_step);
@@ -207,6 +207,25 @@ static void use_default(void)
     expect("the task's quantum", 3, NTK_MOST_QUANTUM, ntk_read(NTK_FIELD_TASK_QUANTUM, 3, by_step, NTK_IMAGE_SIZE));
     expect("what is left of it", 3, NTK_MOST_QUANTUM, ntk_read(NTK_FIELD_TASK_LEFT, 3, by_step, NTK_IMAGE_SIZE));
     expect("the default", 0, 7, ntk_read(NTK_FIELD_DEFAULT_QUANTUM, 0, by_step, NTK_IMAGE_SIZE));
+}
+
+/* The levels with an able task: the top bit is that of level 0. */
+static void be_ready(void)
+{
+    ntk_fresh(by_step, NTK_IMAGE_SIZE);
+    expect("the ready word of none", 0, 0, ntk_ready(by_step));
+    expect("the first level of none", 0, NTK_LEVELS, ntk_first_level(by_step));
+    expect("a task of level 62", 62, NTK_DONE, ntk_task_create(by_step, 1, NTK_LAST_PRIORITY, 0).answer);
+    expect("its bit", 62, 2, ntk_ready(by_step));
+    expect("its level, the first", 62, 62, ntk_first_level(by_step));
+    expect("a task of level 0", 0, NTK_DONE, ntk_task_create(by_step, 2, 0, 0).answer);
+    expect("another", 0, NTK_DONE, ntk_task_create(by_step, 3, 0, 0).answer);
+    expect("their bits", 0, NTK_LEVEL_BIT(0) | NTK_LEVEL_BIT(62), ntk_ready(by_step));
+    expect("their level, the first", 0, 0, ntk_first_level(by_step));
+    expect("one of two sleeps", 0, NTK_DONE, ntk_delay(by_step, 9).answer);
+    expect("the level that the other has", 0, 0, ntk_first_level(by_step));
+    expect("the other sleeps", 0, NTK_DONE, ntk_delay(by_step, 9).answer);
+    expect("the level that is left", 62, 62, ntk_first_level(by_step));
 }
 
 /* ---- the helpers */
@@ -240,6 +259,7 @@ int main(void)
     call_all();
     make_fresh();
     use_default();
+    be_ready();
     read_tasks();
     name_answers();
     if (wrong > 0) {

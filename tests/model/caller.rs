@@ -2,7 +2,7 @@
 mod messages;
 
 use crate::kernel::kinds::{body, KINDS};
-use crate::kernel::{Call, Kernel, State, Task, Wanted, GROUPS, NUMBERS, OBJECTS, TASKS};
+use crate::kernel::{Call, Kernel, State, Task, Wanted, GROUPS, LAST_PRIORITY, NUMBERS, OBJECTS, TASKS};
 use crate::random::Random;
 use crate::tables::some_wanted;
 use messages::another_message;
@@ -34,6 +34,14 @@ fn call(kind: u8, a: usize, b: u32, c: u32) -> Call {
     Call { kind, numbers: [a as u32, b, c, 0, 0, 0] }
 }
 
+/// A few base priorities, or now and then each that there is.
+fn some_levels(random: &mut Random) -> Vec<u32> {
+    if random.chance(10) {
+        return (0..=LAST_PRIORITY).collect();
+    }
+    (0..random.between(1, 6)).map(|_| random.pick(&[0, 1, 5, 5, 7, 10, 30, 62])).collect()
+}
+
 fn wait_for_flags(g: usize, block: u32, limit: u32, wanted: Wanted) -> Call {
     let Wanted { mask, test, consume } = wanted;
     Call { kind: 0x32, numbers: [g as u32, block, limit, mask, test as u32, consume.into()] }
@@ -54,7 +62,7 @@ impl Caller {
             mutexes: if deep { OBJECTS } else { random.pick(&[2, 3, 6, OBJECTS]) },
             groups: random.pick(&[1, 2, GROUPS]),
             channels: random.pick(&[1, 2, OBJECTS]),
-            levels: (0..random.between(1, 6)).map(|_| random.pick(&[0, 1, 5, 5, 7, 10, 30, 62])).collect(),
+            levels: some_levels(random),
             guided: if deep { 97 } else { random.pick(&[30, 60, 90]) },
             locks: random.pick(&[0, 1, 5]),
             likes,

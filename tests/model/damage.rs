@@ -2,7 +2,7 @@
 //! another sound table comes out.
 
 use crate::image::{COLUMNS, IMAGE};
-use crate::kernel::{Kernel, Place, State, Task, GROUPS, MOST_MESSAGES, OBJECTS, TASKS};
+use crate::kernel::{level_bit, Kernel, Place, State, Task, GROUPS, LEVELS, MOST_MESSAGES, OBJECTS, TASKS};
 use crate::random::Random;
 use crate::tables::{arrange, settle, some_wanted};
 
@@ -46,8 +46,8 @@ fn damaged_columns(random: &mut Random, mut image: Vec<u8>) -> Vec<u8> {
         let i = if random.chance(50) { filled.unwrap_or(any) } else { any };
         let n = column.get(&image, i);
         let other = column.get(&image, random.below(column.count));
-        let (border, small) = (random.border(), random.between(2, 8) as u32);
-        column.put(&mut image, i, random.pick(&[0, 1, n.wrapping_add(1), n.wrapping_sub(1), other, border, small]));
+        let (border, small, bit) = (random.border().into(), random.between(2, 8) as u64, 1 << random.below(64));
+        column.put(&mut image, i, random.pick(&[0, 1, n.wrapping_add(1), n.wrapping_sub(1), n ^ bit, other, border, small]));
     }
     image
 }
@@ -70,22 +70,29 @@ fn stale_chain(random: &mut Random, mut kernel: Kernel) -> Kernel {
 
 fn damaged_fields(random: &mut Random, mut kernel: Kernel) -> Kernel {
     for _ in 0..random.pick(&[1, 1, 1, 2, 3]) {
-        match random.below(13) {
+        match random.below(14) {
             0..=3 => damage_task(random, &mut kernel),
             4 => damage_semaphore(random, &mut kernel),
             5 | 6 => damage_mutex(random, &mut kernel),
             7 | 8 => damage_queue(random, &mut kernel),
             9 => damage_flags(random, &mut kernel),
             10 | 11 => damage_channel(random, &mut kernel),
+            12 => damage_ready(random, &mut kernel),
             _ => damage_rest(random, &mut kernel),
         }
     }
     if random.chance(50) {
         settle(random, &mut kernel);
+    } else if random.chance(60) {
+        kernel.ready = kernel.ready_levels(); // so that another rule breaks alone
     }
-    if random.chance(10) {
+    if random.chance(15) {
         // a rule that settling would mend, broken alone
-        if random.chance(50) { damage_queue(random, &mut kernel) } else { damage_rest(random, &mut kernel) }
+        match random.below(3) {
+            0 => damage_queue(random, &mut kernel),
+            1 => damage_ready(random, &mut kernel),
+            _ => damage_rest(random, &mut kernel),
+        }
     }
     kernel
 }
@@ -231,6 +238,21 @@ fn damage_queue(random: &mut Random, kernel: &mut Kernel) {
             queue.swap(at, with);
         }
         _ => {}
+    }
+}
+
+/// The ready word: a bit, one that is set, all of them moved or in the other order, or with the levels of tasks that are not able.
+fn damage_ready(random: &mut Random, kernel: &mut Kernel) {
+    let level = random.pick_from((0..LEVELS).filter(|&level| kernel.ready & level_bit(level) != 0));
+    let used = kernel.tasks.iter().filter(|task| task.used && task.working < LEVELS);
+    let all = used.fold(0, |word, task| word | level_bit(task.working));
+    match random.below(8) {
+        0 | 1 => kernel.ready ^= 1 << random.below(64),
+        2 | 3 => kernel.ready &= !level.map_or(0, level_bit),
+        4 => kernel.ready = random.pick(&[kernel.ready << 1, kernel.ready >> 1, kernel.ready | 1]),
+        5 => kernel.ready = kernel.ready.reverse_bits(),
+        6 => kernel.ready = all,
+        _ => kernel.ready = random.pick(&[0, u64::MAX, !kernel.ready, kernel.ready.swap_bytes()]),
     }
 }
 

@@ -3,13 +3,13 @@
 
 use crate::kernel::{Channel, Kernel, State, Task, Test, Wanted, GROUPS, MOST_MESSAGES, OBJECTS, TASKS};
 
-pub const IMAGE: usize = 4928;
+pub const IMAGE: usize = 4936;
 
 const QUEUES: usize = 1 + 3 * OBJECTS + GROUPS;
 const SLOTS: usize = TASKS;
 
-/// One field of all tasks or objects, or all slots, or a single number. "Numbers of two and four bytes have
-/// their lowest byte first."
+/// One field of all tasks or objects, or all slots, or a single number. "Numbers of two, four and eight bytes
+/// have their lowest byte first."
 #[derive(Clone, Copy)]
 pub struct Column {
     pub of: &'static str,
@@ -57,7 +57,8 @@ columns! {
     DEFAULT_QUANTUM: "", "default quantum", 2876, 2, 1;
     DEPTH: "", "lock depth", 2878, 1, 1;
     RUNNING: "", "running task plus 1", 2879, 1, 1;
-    HELD_MESSAGE: "messages", "slot", 2880, 4, OBJECTS * MOST_MESSAGES;
+    READY: "", "ready word", 2880, 8, 1;
+    HELD_MESSAGE: "messages", "slot", 2888, 4, OBJECTS * MOST_MESSAGES;
 }
 
 /// "There is no padding": each column begins where the one before it ends.
@@ -77,12 +78,12 @@ impl Column {
         self.from + self.width * i
     }
 
-    pub fn get(&self, image: &[u8], i: usize) -> u32 {
-        image[self.at(i)..][..self.width].iter().rev().fold(0, |n, &byte| n << 8 | u32::from(byte))
+    pub fn get(&self, image: &[u8], i: usize) -> u64 {
+        image[self.at(i)..][..self.width].iter().rev().fold(0, |n, &byte| n << 8 | u64::from(byte))
     }
 
     /// What of the number is beyond the column's width is dropped.
-    pub fn put(&self, image: &mut [u8], i: usize, n: u32) {
+    pub fn put(&self, image: &mut [u8], i: usize, n: u64) {
         image[self.at(i)..][..self.width].copy_from_slice(&n.to_le_bytes()[..self.width]);
     }
 
@@ -92,6 +93,10 @@ impl Column {
 
     fn byte(&self, image: &[u8], i: usize) -> u8 {
         self.get(image, i) as u8
+    }
+
+    fn number(&self, image: &[u8], i: usize) -> u32 {
+        self.get(image, i) as u32
     }
 
     fn flag(&self, image: &[u8], i: usize) -> Option<bool> {
@@ -112,8 +117,8 @@ impl Column {
 }
 
 /// "a task's number is written plus 1, and none is 0"
-fn plus_one(t: Option<usize>) -> u32 {
-    t.map_or(0, |t| t as u32 + 1)
+fn plus_one(t: Option<usize>) -> u64 {
+    t.map_or(0, |t| t as u64 + 1)
 }
 
 impl Kernel {
@@ -125,7 +130,7 @@ impl Kernel {
         }
         for (s, semaphore) in self.semaphores.iter().enumerate() {
             SEMAPHORE_USED.put(at, s, semaphore.used.into());
-            COUNT.put(at, s, semaphore.count);
+            COUNT.put(at, s, semaphore.count.into());
         }
         for (m, mutex) in self.mutexes.iter().enumerate() {
             MUTEX_USED.put(at, m, mutex.used.into());
@@ -134,7 +139,7 @@ impl Kernel {
         }
         for (g, group) in self.groups.iter().enumerate() {
             GROUP_USED.put(at, g, group.used.into());
-            FLAGS.put(at, g, group.flags);
+            FLAGS.put(at, g, group.flags.into());
         }
         for (c, channel) in self.channels.iter().enumerate() {
             encode_channel(channel, c, at);
@@ -144,10 +149,11 @@ impl Kernel {
                 SLOT.put(at, q * SLOTS + slot, plus_one(Some(t)));
             }
         }
-        TICK.put(at, 0, self.tick);
+        TICK.put(at, 0, self.tick.into());
         DEFAULT_QUANTUM.put(at, 0, self.default_quantum.into());
         DEPTH.put(at, 0, self.depth.into());
         RUNNING.put(at, 0, plus_one(self.running));
+        READY.put(at, 0, self.ready);
         image
     }
 
@@ -162,7 +168,7 @@ impl Kernel {
         }
         for (s, semaphore) in kernel.semaphores.iter_mut().enumerate() {
             semaphore.used = SEMAPHORE_USED.flag(image, s)?;
-            semaphore.count = COUNT.get(image, s);
+            semaphore.count = COUNT.number(image, s);
         }
         for (m, mutex) in kernel.mutexes.iter_mut().enumerate() {
             mutex.used = MUTEX_USED.flag(image, m)?;
@@ -171,7 +177,7 @@ impl Kernel {
         }
         for (g, group) in kernel.groups.iter_mut().enumerate() {
             group.used = GROUP_USED.flag(image, g)?;
-            group.flags = FLAGS.get(image, g);
+            group.flags = FLAGS.number(image, g);
         }
         for (c, channel) in kernel.channels.iter_mut().enumerate() {
             channel.used = CHANNEL_USED.flag(image, c)?;
@@ -181,10 +187,11 @@ impl Kernel {
         for (q, place) in Kernel::places().enumerate() {
             *kernel.queue_mut(place) = decode_queue(image, q)?;
         }
-        kernel.tick = TICK.get(image, 0);
+        kernel.tick = TICK.number(image, 0);
         kernel.default_quantum = DEFAULT_QUANTUM.get(image, 0) as u16;
         kernel.depth = DEPTH.byte(image, 0);
         kernel.running = RUNNING.task_or_none(image, 0)?;
+        kernel.ready = READY.get(image, 0);
         Some(kernel)
     }
 
@@ -212,17 +219,17 @@ fn encode_task(task: &Task, t: usize, image: &mut [u8]) {
     WORK.put(image, t, task.working.into());
     SUSPENDS.put(image, t, task.suspends.into());
     STATE.put(image, t, state);
-    OBJECT.put(image, t, object as u32);
+    OBJECT.put(image, t, object as u64);
     MARKED.put(image, t, task.mark.is_some().into());
     OUTCOME.put(image, t, task.outcome.into());
     QUANTUM.put(image, t, task.quantum.into());
     LEFT.put(image, t, task.left.into());
-    DUE.put(image, t, task.mark.unwrap_or(0));
-    MESSAGE.put(image, t, task.message);
+    DUE.put(image, t, task.mark.unwrap_or(0).into());
+    MESSAGE.put(image, t, task.message.into());
     if let State::Flags(_, wanted) = task.state {
-        TEST.put(image, t, wanted.test as u32);
+        TEST.put(image, t, wanted.test as u64);
         CONSUME.put(image, t, wanted.consume.into());
-        MASK.put(image, t, wanted.mask);
+        MASK.put(image, t, wanted.mask.into());
     }
 }
 
@@ -230,16 +237,16 @@ fn encode_channel(channel: &Channel, c: usize, image: &mut [u8]) {
     assert!(channel.messages.len() <= MOST_MESSAGES);
     CHANNEL_USED.put(image, c, channel.used.into());
     CAPACITY.put(image, c, channel.capacity.into());
-    HELD.put(image, c, channel.messages.len() as u32);
+    HELD.put(image, c, channel.messages.len() as u64);
     for (slot, &message) in channel.messages.iter().enumerate() {
-        HELD_MESSAGE.put(image, c * MOST_MESSAGES + slot, message);
+        HELD_MESSAGE.put(image, c * MOST_MESSAGES + slot, message.into());
     }
 }
 
 /// What a task wants of the flags of a group: "0 in every state but 4".
 fn decode_wanted(image: &[u8], t: usize) -> Option<Wanted> {
-    let test = Test::from_number(TEST.get(image, t))?;
-    Some(Wanted { mask: MASK.get(image, t), test, consume: CONSUME.flag(image, t)? })
+    let test = Test::from_number(TEST.number(image, t))?;
+    Some(Wanted { mask: MASK.number(image, t), test, consume: CONSUME.flag(image, t)? })
 }
 
 fn wants_nothing(image: &[u8], t: usize) -> bool {
@@ -261,7 +268,7 @@ fn decode_state(image: &[u8], t: usize) -> Option<State> {
 }
 
 fn decode_task(image: &[u8], t: usize) -> Option<Task> {
-    let mark = match (MARKED.flag(image, t)?, DUE.get(image, t)) {
+    let mark = match (MARKED.flag(image, t)?, DUE.number(image, t)) {
         (true, mark) => Some(mark),
         (false, 0) => None,
         (false, _) => return None,
@@ -276,13 +283,13 @@ fn decode_task(image: &[u8], t: usize) -> Option<Task> {
         state: decode_state(image, t)?,
         mark,
         outcome: OUTCOME.byte(image, t),
-        message: MESSAGE.get(image, t),
+        message: MESSAGE.number(image, t),
     })
 }
 
 /// The messages of a channel, the next one first: as many as it holds, and the slots behind them are 0.
 fn decode_messages(image: &[u8], c: usize) -> Option<Vec<u32>> {
-    let slots: Vec<u32> = (0..MOST_MESSAGES).map(|slot| HELD_MESSAGE.get(image, c * MOST_MESSAGES + slot)).collect();
+    let slots: Vec<u32> = (0..MOST_MESSAGES).map(|slot| HELD_MESSAGE.number(image, c * MOST_MESSAGES + slot)).collect();
     let held = HELD.get(image, c) as usize;
     let unused = slots.get(held..)?;
     if unused.iter().any(|&message| message != 0) { None } else { Some(slots[..held].to_vec()) }

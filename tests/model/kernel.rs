@@ -18,6 +18,7 @@ pub const OBJECTS: usize = 16; // semaphores, mutexes, channels
 pub const GROUPS: usize = 8;
 
 pub const LAST_PRIORITY: u32 = 62;
+pub const LEVELS: u8 = 64; // bits of the ready word
 pub const MOST: u8 = 250; // suspends, nestings, locks
 pub const MOST_QUANTUM: u32 = 65535;
 pub const MOST_MESSAGES: usize = 32; // in a channel
@@ -108,6 +109,8 @@ pub struct Kernel {
     pub default_quantum: u16,
     pub depth: u8,
     pub running: Option<usize>,
+    /// "a 64-bit word in which a level's bit is set exactly if that level has an able task"
+    pub ready: u64,
 }
 
 /// How many numbers the port gives with a kind: "the port may take more".
@@ -139,6 +142,11 @@ pub enum Place {
     Channel(usize),
 }
 
+/// Bit 63 for level 0, the most urgent, and so on.
+pub fn level_bit(level: u8) -> u64 {
+    1 << (LEVELS - 1 - level)
+}
+
 // ---------------------------------------------------------------------------------------------------
 // Reading the table
 
@@ -157,6 +165,7 @@ impl Kernel {
             default_quantum: 100,
             depth: 0,
             running: None,
+            ready: 0,
         }
     }
 
@@ -164,6 +173,13 @@ impl Kernel {
     pub fn is_able(&self, t: usize) -> bool {
         let task = &self.tasks[t];
         task.used && task.state == State::Plain && task.suspends == 0
+    }
+
+    /// The ready word, worked out from the tasks alone. Since the first level is found by counting leading zeros, the
+    /// most urgent one has the top bit.
+    pub fn ready_levels(&self) -> u64 {
+        let has_able = |level: u8| (0..TASKS).any(|t| self.is_able(t) && self.tasks[t].working == level);
+        (0..LEVELS).filter(|&level| has_able(level)).map(level_bit).sum()
     }
 
     /// The holder of the mutex that a task waits for.

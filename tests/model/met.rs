@@ -1,6 +1,6 @@
 //! What random calls met.
 use crate::kernel::kinds::KINDS;
-use crate::kernel::{Call, Kernel, Outcome, State, Task, Wanted, TASKS};
+use crate::kernel::{level_bit, Call, Kernel, Outcome, State, Task, Wanted, TASKS};
 use std::collections::BTreeMap;
 
 /// What the sequences met, to show that they reach the corners.
@@ -23,6 +23,7 @@ pub struct Met {
     turns: u64,
     flags: MetFlags,
     channels: MetChannels,
+    levels: MetLevels,
 }
 
 /// Did a chain change the working priority of a task that waits, and waits on, in such a state?
@@ -88,11 +89,48 @@ impl MetFlags {
     }
 }
 
-/// What the calls for channels met, each with its name.
-#[derive(Default)]
+/// How often each of a list of things was met.
+struct Counts {
+    of: &'static str,
+    names: &'static [&'static str],
+    met: BTreeMap<&'static str, u64>,
+}
+
+impl Counts {
+    fn new(of: &'static str, names: &'static [&'static str]) -> Counts {
+        Counts { of, names, met: BTreeMap::new() }
+    }
+
+    fn count(&mut self, name: &'static str, met: bool) {
+        assert!(self.names.contains(&name));
+        *self.met.entry(name).or_default() += u64::from(met);
+    }
+
+    fn times(&self, name: &str) -> u64 {
+        self.met.get(name).copied().unwrap_or(0)
+    }
+
+    fn unmet(&self) -> impl Iterator<Item = String> + '_ {
+        self.names.iter().filter(|name| self.times(name) == 0).map(|name| format!("{}, {name}", self.of))
+    }
+
+    /// With what else there is to tell of it.
+    fn tell(&self, most: String) {
+        let list: Vec<String> = self.names.iter().map(|name| format!("{name} {}", self.times(name))).collect();
+        println!("  {}: {}, {most}", self.of, list.join(", "));
+    }
+}
+
+/// What the calls for channels met.
 struct MetChannels {
-    counts: BTreeMap<&'static str, u64>,
+    counts: Counts,
     most_flushed: u32,
+}
+
+impl Default for MetChannels {
+    fn default() -> MetChannels {
+        MetChannels { counts: Counts::new("channels", &MET_CHANNELS), most_flushed: 0 }
+    }
 }
 
 const MET_CHANNELS: [&str; 16] = [
@@ -116,8 +154,7 @@ const MET_CHANNELS: [&str; 16] = [
 
 impl MetChannels {
     fn count(&mut self, name: &'static str, met: bool) {
-        assert!(MET_CHANNELS.contains(&name));
-        *self.counts.entry(name).or_default() += u64::from(met);
+        self.counts.count(name, met);
     }
 
     fn note(&mut self, before: &Kernel, after: &Kernel, call: Call, outcome: Outcome) {
@@ -160,17 +197,70 @@ impl MetChannels {
         }
     }
 
-    fn met(&self, name: &str) -> u64 {
-        self.counts.get(name).copied().unwrap_or(0)
+    fn tell(&self) {
+        self.counts.tell(format!("most that a flush told {}", self.most_flushed));
     }
+}
 
-    fn unmet(&self) -> impl Iterator<Item = String> + '_ {
-        MET_CHANNELS.iter().filter(|name| self.met(name) == 0).map(|name| format!("channels, {name}"))
+/// What the calls did to the ready word.
+struct MetLevels {
+    counts: Counts,
+    most: u32,
+}
+
+impl Default for MetLevels {
+    fn default() -> MetLevels {
+        MetLevels { counts: Counts::new("ready levels", &MET_LEVELS), most: 0 }
+    }
+}
+
+const MET_LEVELS: [&str; 13] = [
+    "a bit set",
+    "one cleared",
+    "one moved",
+    "changed when locked",
+    "none left",
+    "level 0 alone",
+    "level 62 alone",
+    "each byte of the word",
+    "a task before its equals left",
+    "one behind them",
+    "one between them",
+    "an able task raised by a mutex wait",
+    "an able task lowered",
+];
+
+impl MetLevels {
+    fn note(&mut self, before: &Kernel, after: &Kernel, call: Call) {
+        let (set, cleared) = (after.ready & !before.ready, before.ready & !after.ready);
+        self.most = self.most.max(after.ready.count_ones());
+        let mut count = |name, met| self.counts.count(name, met);
+        count("a bit set", set != 0);
+        count("one cleared", cleared != 0);
+        count("one moved", set != 0 && cleared != 0);
+        count("changed when locked", before.depth > 0 && before.ready != after.ready);
+        count("none left", before.ready != 0 && after.ready == 0);
+        count("level 0 alone", after.ready == level_bit(0));
+        count("level 62 alone", after.ready == level_bit(62));
+        count("each byte of the word", after.ready.to_le_bytes().iter().all(|&byte| byte != 0));
+        for (at, &t) in before.able.iter().enumerate() {
+            let (was, is) = (before.tasks[t].working, after.tasks[t].working);
+            let equal = |other: Option<&usize>| other.map_or(false, |&other| before.tasks[other].working == was);
+            let sides = (equal(at.checked_sub(1).and_then(|at| before.able.get(at))), equal(before.able.get(at + 1)));
+            if !after.is_able(t) && after.ready & level_bit(was) != 0 {
+                count("a task before its equals left", sides == (false, true));
+                count("one behind them", sides == (true, false));
+                count("one between them", sides == (true, true));
+            }
+            if after.is_able(t) {
+                count("an able task raised by a mutex wait", is < was && call.kind == 0x22);
+                count("an able task lowered", is > was && call.kind != 0x03);
+            }
+        }
     }
 
     fn tell(&self) {
-        let list: Vec<String> = MET_CHANNELS.iter().map(|name| format!("{name} {}", self.met(name))).collect();
-        println!("  channels: {}, most that a flush told {}", list.join(", "), self.most_flushed);
+        self.counts.tell(format!("most at once {}", self.most));
     }
 }
 
@@ -181,6 +271,7 @@ impl Met {
         self.locked += u64::from(before.depth > 0);
         self.flags.moved += u64::from(moved_one(before, after, |state| matches!(state, State::Flags(..))));
         self.channels.note(before, after, call, outcome);
+        self.levels.note(before, after, call);
         if answer == 14 {
             self.note_chain(after, before.running.unwrap());
         }
@@ -229,7 +320,8 @@ impl Met {
         println!("  tasks created with 0 by another default than 100 {}, turns that a tick ended {}", self.by_default, self.turns);
         self.flags.tell();
         self.channels.tell();
-        let mut unmet: Vec<String> = self.channels.unmet().collect();
+        self.levels.tell();
+        let mut unmet: Vec<String> = self.channels.counts.unmet().chain(self.levels.counts.unmet()).collect();
         for (kind, name, _) in KINDS {
             let counts = self.answers.range((kind, 0)..=(kind, u32::MAX));
             let list: Vec<String> = counts.map(|((_, answer), count)| format!("{answer}: {count}")).collect();
@@ -238,7 +330,7 @@ impl Met {
             unmet.extend(missing.map(|answer| format!("{name} {answer}")));
         }
         if unmet.is_empty() {
-            println!("  every answer that a kind can give was met, and all that is counted of channels");
+            println!("  every answer that a kind can give was met, and all that is counted of channels and ready levels");
         } else {
             println!("  not met: {}", unmet.join(", "));
         }

@@ -1,5 +1,5 @@
 //! Random sound tables, built directly: also such as no short sequence of calls reaches.
-use crate::kernel::{Channel, Group, Kernel, Mutex, Semaphore, State, Task, Test, Wanted, GROUPS, MOST, OBJECTS, TASKS};
+use crate::kernel::{Channel, Group, Kernel, Mutex, Semaphore, State, Task, Test, Wanted, GROUPS, LAST_PRIORITY, MOST, OBJECTS, TASKS};
 use crate::random::Random;
 
 /// A sound table with tasks in every state, chains and rings.
@@ -8,7 +8,11 @@ pub fn table(random: &mut Random) -> Kernel {
     kernel.tick = random.tick();
     kernel.default_quantum = random.quantum();
     let crowd = random.pick(&[10, 40, 80, 100]);
-    let levels: Vec<u8> = (0..random.between(1, 5)).map(|_| random.pick(&[0, 1, 2, 5, 20, 40, 61, 62])).collect();
+    let levels: Vec<u8> = if random.chance(15) {
+        (0..=LAST_PRIORITY as u8).collect()
+    } else {
+        (0..random.between(1, 5)).map(|_| random.pick(&[0, 1, 2, 5, 20, 40, 61, 62])).collect()
+    };
     for t in 0..TASKS {
         if random.chance(crowd) {
             kernel.tasks[t] = some_task(random, &levels);
@@ -133,7 +137,7 @@ fn long_chain(random: &mut Random, kernel: &mut Kernel, used: &[usize]) {
     }
 }
 
-/// Works out what follows from the other fields: working priorities, queues, the running task.
+/// Works out what follows from the other fields: working priorities, queues, the running task, the ready word.
 pub fn settle(random: &mut Random, kernel: &mut Kernel) {
     let afresh = kernel.all_afresh();
     for t in (0..TASKS).filter(|&t| kernel.tasks[t].used).collect::<Vec<_>>() {
@@ -142,7 +146,7 @@ pub fn settle(random: &mut Random, kernel: &mut Kernel) {
     arrange(random, kernel);
 }
 
-/// Works out queues and the running task from the states and the working priorities as they are.
+/// Works out queues, the running task and the ready word from the states and the working priorities as they are.
 pub fn arrange(random: &mut Random, kernel: &mut Kernel) {
     for place in Kernel::places() {
         kernel.queue_mut(place).clear();
@@ -160,6 +164,7 @@ pub fn arrange(random: &mut Random, kernel: &mut Kernel) {
         let able = kernel.able.clone();
         kernel.running = if able.is_empty() || random.chance(15) { None } else { Some(random.pick(&able)) };
     }
+    kernel.ready = kernel.ready_levels();
 }
 
 /// Where a sequence of calls starts.

@@ -43,7 +43,8 @@ static const struct column columns[] = {
     {NTK_FIELD_DEFAULT_QUANTUM, 1, 2876, 2},
     {NTK_FIELD_DEPTH, 1, 2878, 1},
     {NTK_FIELD_RUNNING, 1, 2879, 1},
-    {NTK_FIELD_MESSAGE, 512, 2880, 4},
+    {NTK_FIELD_READY, 1, 2880, 8},
+    {NTK_FIELD_MESSAGE, 512, 2888, 4},
 };
 
 enum { COLUMNS = sizeof columns / sizeof columns[0] };

@@ -1,5 +1,5 @@
 /* ntk_read beside a decoder of the bytes: every field of every number, of the fresh image, after each of some calls and on bytes at random;
- * then what is unknown, and wrong lengths. */
+ * then the first level of ready words, what is unknown, and wrong lengths. */
 #include <stdio.h>
 #include <string.h>
 
@@ -103,6 +103,27 @@ static const struct call calls[] = {
     {NTK_GROUP_WAIT, {7, 1, 4294967295u, 0x80000100u, NTK_ALL_CLEAR, 0}, NTK_BLOCKS},
 };
 
+/* The levels of the able tasks, as the ready word has to have them. */
+static uint64_t able_levels(void)
+{
+    uint64_t word = 0;
+    uint32_t i;
+
+    for (i = 0; i < NTK_TASKS; i++)
+        if (decode(NTK_FIELD_TASK_IN_USE, i, table) == 1 && decode(NTK_FIELD_TASK_STATE, i, table) == NTK_PLAIN &&
+            decode(NTK_FIELD_TASK_SUSPEND, i, table) == 0)
+            word |= NTK_LEVEL_BIT(decode(NTK_FIELD_TASK_WORK, i, table));
+    return word;
+}
+
+/* That of the first able task. */
+static uint64_t able_level(void)
+{
+    uint32_t first = ntk_task_of(ntk_slot_of(table, NTK_ABLE_QUEUE, 0));
+
+    return first == NTK_NONE ? NTK_LEVELS : ntk_priority_of(table, first);
+}
+
 static void play(void)
 {
     uint32_t ticks = 0;
@@ -117,6 +138,8 @@ static void play(void)
         read_all("after a call");
         expect("ntk_running", 0, 0, o.runs, ntk_running(table));
         expect("ntk_tick_count", 0, 0, ticks, ntk_tick_count(table));
+        expect("ntk_ready", 0, (uint32_t)i, able_levels(), ntk_ready(table));
+        expect("ntk_first_level", 0, (uint32_t)i, able_level(), ntk_first_level(table));
     }
 }
 
@@ -153,6 +176,7 @@ static void after_play(void)
     expect("mutex 15's nesting", 0, 15, 2, ntk_read(NTK_FIELD_MUTEX_NESTING, 15, table, NTK_IMAGE_SIZE));
     expect("semaphore 3's count", 0, 3, NTK_MOST_COUNT, ntk_read(NTK_FIELD_SEMAPHORE_COUNT, 3, table, NTK_IMAGE_SIZE));
     expect("the first able task", 0, 0, 0, ntk_slot_of(table, NTK_ABLE_QUEUE, 0));
+    expect("the ready levels", 0, 0, 0, ntk_ready(table));
     expect("group 7's first waiter", 0, 0, 32, ntk_slot_of(table, NTK_GROUP_QUEUE(7), 0));
     expect("group 7's second waiter", 0, 1, 1, ntk_slot_of(table, NTK_GROUP_QUEUE(7), 1));
     expect("slot 32 of a queue", 0, 32, NTK_NO_FIELD, ntk_slot_of(table, NTK_ABLE_QUEUE, 32));
@@ -181,6 +205,39 @@ static void at_random(void)
     }
     memset(table, 255, sizeof table);
     read_all("of bytes that are all 255");
+}
+
+/* ---- ready words */
+
+static void put_ready(uint64_t word)
+{
+    const struct column *c = columns;
+    size_t k;
+
+    while (c->field != NTK_FIELD_READY)
+        c++;
+    for (k = 0; k < c->width; k++)
+        table[c->from + k] = (uint8_t)(word >> (8 * k));
+}
+
+/* The first level is the top bit's, whatever stands below it. */
+static void first_levels(void)
+{
+    uint64_t below;
+    uint32_t level;
+    int turn, k;
+
+    put_ready(0);
+    expect("the first level of none", 0, 0, NTK_LEVELS, ntk_first_level(table));
+    for (level = 0; level < NTK_LEVELS; level++)
+        for (turn = 0; turn < 20; turn++) {
+            for (below = 0, k = 0; k < 8; k++)
+                below = below << 8 | some_byte();
+            below = turn == 0 ? 0 : turn == 1 ? UINT64_MAX : below;
+            put_ready(NTK_LEVEL_BIT(level) | (below & (NTK_LEVEL_BIT(level) - 1)));
+            expect("the first level", 0, level, level, ntk_first_level(table));
+            expect("its bit", 0, level, 1, ntk_ready(table) >> (63 - level));
+        }
 }
 
 /* ---- what is unknown */
@@ -214,6 +271,7 @@ int main(void)
     play();
     after_play();
     at_random();
+    first_levels();
     unknown();
     printf("fields: %lu compared, %lu wrong\n", compared, wrong);
     return wrong != 0;

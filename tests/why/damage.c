@@ -1,7 +1,7 @@
 /* Images out of played tapes, damaged: ntk_why beside ntk_step and beside a plain reading of each rule. damage TAPE.. plays each tape, and at each
- * 1000th call and at its end takes the image: as it is, with each field of each record set to several values, with slots and queues exchanged, with
- * several damages at once, and with a wrong length. So does it with a table of channels, where of some damages the rule and the record are known
- * beforehand. Prints what was met; 0 where all is well. */
+ * 1000th call and at its end takes the image: as it is, with each field of each record set to several values, with each bit of the ready word turned
+ * over, with slots and queues exchanged, with several damages at once, and with a wrong length. So does it with a table of channels and with one of
+ * levels, where of some damages the rule and the record are known beforehand. Prints what was met; 0 where all is well. */
 #include <stdio.h>
 #include <stdlib.h>
 #include <string.h>
@@ -14,7 +14,7 @@ enum { EVERY = 1000, RULES = 256, DAMAGES = 400 };
 /* No bytes break these: their columns have just that width. */
 static const uint32_t unbreakable[] = {
     NTK_RULE_TASK_QUANTUM, NTK_RULE_TASK_LEFT, NTK_RULE_TASK_MESSAGE, NTK_RULE_SEMAPHORE_COUNTS, NTK_RULE_GROUP_FLAGS, NTK_RULE_MESSAGE_RANGE,
-    NTK_RULE_TICK_RANGE, NTK_RULE_DEFAULT_MOST,
+    NTK_RULE_TICK_RANGE, NTK_RULE_DEFAULT_MOST, NTK_RULE_READY_WORD,
 };
 
 static uint8_t sound[NTK_IMAGE_SIZE], image[NTK_IMAGE_SIZE + 1];
@@ -72,7 +72,7 @@ static void try_image(void)
     expect("ntk_step disagrees", (answer == NTK_NOT_SOUND) == (reason.rule != NTK_RULE_NONE), reason);
 }
 
-static void put(const struct column *c, uint32_t number, uint32_t value)
+static void put(const struct column *c, uint32_t number, uint64_t value)
 {
     size_t k;
 
@@ -156,6 +156,22 @@ static void try_ticks(void)
         }
 }
 
+/* A bit of the ready word that is not as it was breaks the rule of its level, and no other. */
+static void try_levels(void)
+{
+    uint32_t level;
+
+    for (level = 0; level < NTK_LEVELS; level++) {
+        struct ntk_reason reason;
+
+        put(column_of(NTK_FIELD_READY), 0, decode(NTK_FIELD_READY, 0, sound) ^ NTK_LEVEL_BIT(level));
+        try_image();
+        reason = ntk_why(image, NTK_IMAGE_SIZE);
+        expect("a bit of the ready word", reason.rule == NTK_RULE_READY_LEVELS && reason.number == level, reason);
+        memcpy(image, sound, sizeof sound);
+    }
+}
+
 static void try_lengths(void)
 {
     size_t length;
@@ -177,9 +193,10 @@ static void try_all(void)
     try_fields();
     try_several();
     try_ticks();
+    try_levels();
 }
 
-/* ---- channels */
+/* ---- tables of which something is known */
 
 static void make_call(uint8_t kind, uint32_t a, uint32_t b, uint32_t c, uint32_t want)
 {
@@ -210,10 +227,13 @@ static void make_channels(void)
 }
 
 /* A field set to a value, and what is broken by it. */
-static const struct known {
-    uint32_t field, number, value;
+struct known {
+    uint32_t field, number;
+    uint64_t value;
     struct ntk_reason reason;
-} known[] = {
+};
+
+static const struct known of_channels[] = {
     {NTK_FIELD_TASK_STATE, 1, 6, {NTK_RULE_TASK_STATE, 1}},
     {NTK_FIELD_TASK_OBJECT, 1, 16, {NTK_RULE_TASK_OBJECT, 1}},
     {NTK_FIELD_TASK_OBJECT, 1, 3, {NTK_RULE_WAIT_USED, 1}},
@@ -237,13 +257,46 @@ static const struct known {
     {NTK_FIELD_QUEUE_SLOT, NTK_SLOT(NTK_CHANNEL_QUEUE(15), 31), 33, {NTK_RULE_QUEUE_NOTHING_ELSE, NTK_SLOT(NTK_CHANNEL_QUEUE(15), 31)}},
 };
 
-static void try_channels(void)
+/* Task 3 runs at level 0, tasks 1 and 2 are able at level 10; task 4, of level 62, is suspended, and task 5, of level 30, sleeps. */
+static void make_levels(void)
+{
+    if (ntk_fresh(sound, sizeof sound) != NTK_DONE)
+        wrong++;
+    make_call(NTK_TASK_CREATE, 5, 30, 5, NTK_DONE);
+    make_call(NTK_DELAY, 9, 0, 0, NTK_DONE);
+    make_call(NTK_TASK_CREATE, 4, 62, 5, NTK_DONE);
+    make_call(NTK_SUSPEND, 4, 0, 0, NTK_DONE);
+    make_call(NTK_TASK_CREATE, 1, 10, 5, NTK_DONE);
+    make_call(NTK_TASK_CREATE, 2, 10, 5, NTK_DONE);
+    make_call(NTK_TASK_CREATE, 3, 0, 5, NTK_DONE);
+}
+
+#define TWO_LEVELS (NTK_LEVEL_BIT(0) | NTK_LEVEL_BIT(10))
+
+/* The ready word is the last that is looked at. */
+static const struct known of_levels[] = {
+    {NTK_FIELD_READY, 0, TWO_LEVELS, {NTK_RULE_NONE, 0}},
+    {NTK_FIELD_READY, 0, NTK_LEVEL_BIT(0), {NTK_RULE_READY_LEVELS, 10}},
+    {NTK_FIELD_READY, 0, NTK_LEVEL_BIT(10), {NTK_RULE_READY_LEVELS, 0}},
+    {NTK_FIELD_READY, 0, 0, {NTK_RULE_READY_LEVELS, 0}},
+    {NTK_FIELD_READY, 0, TWO_LEVELS | NTK_LEVEL_BIT(30), {NTK_RULE_READY_LEVELS, 30}},
+    {NTK_FIELD_READY, 0, TWO_LEVELS | NTK_LEVEL_BIT(62), {NTK_RULE_READY_LEVELS, 62}},
+    {NTK_FIELD_READY, 0, TWO_LEVELS | 1, {NTK_RULE_READY_LEVELS, 63}},
+    {NTK_FIELD_READY, 0, TWO_LEVELS >> 1, {NTK_RULE_READY_LEVELS, 0}},
+    {NTK_FIELD_READY, 0, UINT64_MAX, {NTK_RULE_READY_LEVELS, 1}},
+    {NTK_FIELD_TASK_SUSPEND, 4, 0, {NTK_RULE_QUEUE_PLACES, NTK_SLOT(NTK_ABLE_QUEUE, 4)}},
+    {NTK_FIELD_TASK_WORK, 1, 11, {NTK_RULE_QUEUE_ORDERED, NTK_SLOT(NTK_ABLE_QUEUE, 1)}},
+    {NTK_FIELD_TASK_WORK, 2, 11, {NTK_RULE_TASK_WORKED, 2}},
+    {NTK_FIELD_RUNNING, 0, 0, {NTK_RULE_RUNNING_FIRST, 0}},
+};
+
+static void try_known(void (*make)(void), const struct known *known, size_t count)
 {
     size_t i;
 
-    make_channels();
+    make();
     try_all();
-    for (i = 0; i < sizeof known / sizeof *known; i++) {
+    for (i = 0; i < count; i++) {
         struct ntk_reason reason;
 
         put(column_of(known[i].field), known[i].number, known[i].value);
@@ -316,7 +369,8 @@ int main(int count, char **names)
 
     for (i = 1; i < count; i++)
         play(names[i]);
-    try_channels();
+    try_known(make_channels, of_channels, sizeof of_channels / sizeof *of_channels);
+    try_known(make_levels, of_levels, sizeof of_levels / sizeof *of_levels);
     try_lengths();
     tell_met();
     return wrong != 0;

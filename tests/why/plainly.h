@@ -183,6 +183,17 @@ static int kept_by_slot(uint32_t rule, uint32_t n, const uint8_t *image)
     }
 }
 
+/* Level 0 has the top bit of the ready word. */
+static int kept_by_level(uint32_t level, const uint8_t *image)
+{
+    uint64_t word = decode(NTK_FIELD_READY, 0, image);
+    uint32_t i, found = 0;
+
+    for (i = 0; i < NTK_TASKS; i++)
+        found |= able(i, image) && of(NTK_FIELD_TASK_WORK, i, image) == level;
+    return (word >> (63 - level) & 1) == found;
+}
+
 static int kept_by_numbers(uint32_t rule, const uint8_t *image)
 {
     uint32_t depth = of(NTK_FIELD_DEPTH, 0, image), running = of(NTK_FIELD_RUNNING, 0, image);
@@ -200,6 +211,8 @@ static int kept_by_numbers(uint32_t rule, const uint8_t *image)
 /* How many records a rule has. */
 static uint32_t records(uint32_t rule)
 {
+    if (rule == NTK_RULE_READY_LEVELS)
+        return NTK_LEVELS;
     if (rule >= 0xB0)
         return 1;
     if (rule >= 0x90 && rule < 0xA0)
@@ -216,6 +229,8 @@ static int kept_plainly(uint32_t rule, uint32_t number, const uint8_t *image)
 {
     if (number >= records(rule))
         return 1;
+    if (rule == NTK_RULE_READY_LEVELS)
+        return kept_by_level(number, image);
     if (rule >= 0xB0)
         return kept_by_numbers(rule, image);
     if (rule >= 0x90 && rule < 0xA0)

@@ -3,7 +3,7 @@ from mir import Unknown, items, name_of, number, parts, split, unknown
 from shapes import BOOL, BYTE, INTEGERS, LENGTH, POINTER, SLICE, UNIT, c_name, declared, is_union
 
 EXPORTED = "ntk_"   # how the last part of an exported function's name begins; the header declares it
-OPERATORS = {"add": "+", "sub": "-", "mul": "*", "div": "/", "rem": "%", "and": "&", "or": "|", "xor": "^"}
+OPERATORS = {"add": "+", "sub": "-", "mul": "*", "div": "/", "rem": "%", "and": "&", "or": "|", "xor": "^", "shr": ">>"}
 COMPARISONS = {"lt": "<", "le": "<=", "eq": "==", "ne": "!="}
 ZEROS = ("0u", "UINT32_C(0)", "UINT64_C(0)")
 OF_BOOLEANS = ("and", "or", "xor", "eq", "ne")
@@ -237,16 +237,18 @@ class Function:
         return getattr(self, "rvalue_" + name)(c_type, *inside)
 
     def rvalue_op1(self, c_type, operation, form):
-        name, inside = split(operation, "operation", "not/0 cast/3")
+        name, inside = split(operation, "operation", "not/0 cast/3 leadingZeros/0")
         text, found = self.typed(form)
         if name == "not" and found == c_type == BOOL:
             return "!" + text
-        if name == "not" or inside[:2] != ["unsigned", "unsigned"] or INTEGERS.get(c_type) != number(inside[2]) or found not in [*INTEGERS, BOOL]:
+        if name == "leadingZeros" and (found, c_type) == ("uint64_t", "uint32_t"):
+            return "leading_zeros64(%s)" % text
+        if name != "cast" or inside[:2] != ["unsigned", "unsigned"] or INTEGERS.get(c_type) != number(inside[2]) or found not in [*INTEGERS, BOOL]:
             unknown("operation from a %s to a %s" % (found, c_type), operation)
         return "(%s)%s" % (c_type, text)
 
     def rvalue_op2(self, c_type, operation, left, right):
-        name, sign = split(operation, "operation", "add/1 sub/1 mul/1 div/1 rem/1 lt/1 le/1 eq/0 ne/0 and/0 or/0 xor/0 offset/0")
+        name, sign = split(operation, "operation", "add/1 sub/1 mul/1 div/1 rem/1 shr/1 lt/1 le/1 eq/0 ne/0 and/0 or/0 xor/0 offset/0")
         if name == "offset":
             return "%s + %s" % (self.operand(left, POINTER), self.operand(right, LENGTH)) if c_type == POINTER else unknown("offset for a", c_type)
         x, of = self.typed(left)

@@ -22,6 +22,24 @@ static inline uint32_t load32(const uint8_t *p)
 }
 """
 
+# Only where a function calls it: a compiler would warn. By halves, since a board's registers have 32 bits.
+LEADING_ZEROS = """
+/* How many zeros stand before the first 1; 64 where there is none. */
+static inline uint32_t leading_zeros64(uint64_t x)
+{
+    uint32_t high = (uint32_t)(x >> 32), part = high != 0 ? high : (uint32_t)x, zeros = high != 0 ? 0 : 32, step;
+
+    if (part == 0)
+        return 64;
+    for (step = 16; step > 0; step /= 2)
+        if (part >> (32 - step) == 0) {
+            part <<= step;
+            zeros += step;
+        }
+    return zeros;
+}
+"""
+
 
 def within(symbol, work):
     """Does some work on a function: what goes wrong names it."""
@@ -69,7 +87,9 @@ def translate(text):
     names = [functions[symbol].name for symbol in done]
     if len(set(names)) != len(names):
         raise Unknown("two functions that have one name in C")
-    return "\n".join([HEAD, *types.lines] + ["\n" + "\n".join(lines) for lines in done.values()]) + "\n"
+    counts = any("leading_zeros64(" in line for lines in done.values() for line in lines)
+    head = HEAD + LEADING_ZEROS if counts else HEAD
+    return "\n".join([head, *types.lines] + ["\n" + "\n".join(lines) for lines in done.values()]) + "\n"
 
 
 if __name__ == "__main__":

@@ -41,7 +41,8 @@ COLUMNS = [
     (2876, 2, 1, "default quantum"),
     (2878, 1, 1, "depth"),
     (2879, 1, 1, "running"),
-    (2880, 128, 16, "channel messages"),
+    (2880, 8, 1, "ready"),
+    (2888, 128, 16, "channel messages"),
 ]
 SIZE = COLUMNS[-1][0] + COLUMNS[-1][1] * COLUMNS[-1][2]
 
@@ -49,6 +50,7 @@ SIZE = COLUMNS[-1][0] + COLUMNS[-1][1] * COLUMNS[-1][2]
 ABLE = 0
 QUEUES = {"semaphore": 1, "mutex": 17, "group": 33, "channel": 41}
 MOST_MESSAGES = 32
+LEVELS = 64  # bits of the ready word; level 0 has the top one
 
 STATES = ["plain", "delayed", "semaphore", "mutex", "group", "channel"]
 OUTCOMES = ["given", "timed out", "aborted", "deleted"]
@@ -89,6 +91,16 @@ class Image:
     def queue(self, number):
         slots = self.bytes_of("queue", number).rstrip(b"\0")
         return " ".join("-" if s == 0 else str(s - 1) if s <= 32 else "%d?" % s for s in slots) or "-"
+
+    def is_able(self, number):
+        return [self.get("task " + what, number) for what in ("used", "state", "suspend")] == [1, 0, 0]
+
+    def levels(self):
+        """Those whose bit is set, and behind them those that have an able task and no bit."""
+        able = {self.get("task work", number) for number in range(self.count("task used")) if self.is_able(number)}
+        bits = {level for level in range(LEVELS) if self.get("ready") >> (LEVELS - 1 - level) & 1}
+        words = " ".join("%d%s" % (level, "" if level in able else "?") for level in sorted(bits)) or "-"
+        return words + "".join(", not %d?" % level for level in sorted(able - bits))
 
     def messages(self, number):
         """Those that a channel holds, the next first; behind them what stands in a slot that should be 0."""
@@ -169,6 +181,7 @@ def told(image):
     single = (image.get("tick"), image.quantum("default quantum"), image.get("depth"), image.task("running"))
     yield "tick %d, default quantum %s, lock depth %d, running %s" % single
     yield "able: %s" % image.queue(ABLE)
+    yield "ready levels: %s" % image.levels()
     for owner, heads, numbers, row_of in SECTIONS:
         rows = [row_of(image, number, shown) for number, shown in image.numbers(owner)]
         if rows:
@@ -205,8 +218,9 @@ class Nonthachak(gdb.Command):
 
 IMAGE is the array of bytes that the port has, or its address. The state is plain, delayed, or the object that the task waits for, of a
 group with the flags, the test and whether it consumes them. Queues have the most urgent first, channels (message queues) the message that
-is taken next. A ? stands at what a sound table cannot hold: a number beyond its values, which is printed as it stands, or one that is not
-in use and has fields, messages or waiters."""
+is taken next. The ready levels are those whose bit is set in the ready word. A ? stands at what a sound table cannot hold: a number beyond
+its values, which is printed as it stands, one that is not in use and has fields, messages or waiters, or a level whose bit is not as the
+able tasks have it."""
 
     def __init__(self):
         super().__init__("nonthachak", gdb.COMMAND_DATA, gdb.COMPLETE_EXPRESSION)

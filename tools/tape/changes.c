@@ -208,7 +208,7 @@ static void write_member(FILE *out, const struct family *family, uint32_t number
     write_what(out, family->name, number, &what);
 }
 
-/* ---- rows: queues and messages */
+/* ---- rows: queues, ready levels and messages */
 
 static void add_queue(struct line *line, const uint8_t *image, uint32_t queue)
 {
@@ -219,6 +219,24 @@ static void add_queue(struct line *line, const uint8_t *image, uint32_t queue)
         line_add(line, "%s%lu", j ? " " : "", (unsigned long)(entry - 1));
     if (j == 0)
         line_add(line, "empty");
+}
+
+void add_levels(struct line *line, const uint8_t *image)
+{
+    uint64_t word = ntk_ready(image);
+    uint32_t l;
+
+    for (l = 0; l < NTK_LEVELS; l++)
+        if (word & NTK_LEVEL_BIT(l))
+            line_add(line, "%s%lu", word >> (63 - l) == 1 ? "" : " ", (unsigned long)l);
+    if (word == 0)
+        line_add(line, "none");
+}
+
+static void add_ready(struct line *line, const uint8_t *image, uint32_t number)
+{
+    (void)number; /* there is one word */
+    add_levels(line, image);
 }
 
 static void add_messages(struct line *line, const uint8_t *image, uint32_t channel)
@@ -252,6 +270,7 @@ static void write_queues(FILE *out, const uint8_t *before, const uint8_t *after)
     uint32_t n;
 
     write_row(out, "able", before, after, add_queue, NTK_ABLE_QUEUE);
+    write_row(out, "ready levels", before, after, add_ready, 0);
     for (i = 1; i < COUNT(families); i++)
         for (n = 0; n < families[i].members; n++) {
             struct line whose = {0};

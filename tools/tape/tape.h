@@ -19,6 +19,10 @@ void disassemble(FILE *tape, const char *name, FILE *out);
 
 void trace(FILE *tape, const char *name, FILE *out, int with_table);
 
+/* Adds the levels of an image's ready word to a line, the most urgent first. */
+struct line;
+void add_levels(struct line *line, const uint8_t *image);
+
 /* What changed between two images of NTK_IMAGE_SIZE bytes, in words, a line for each thing. */
 void write_changes(FILE *out, const uint8_t *before, const uint8_t *after);
 

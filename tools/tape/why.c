@@ -70,7 +70,7 @@ static const struct owner {
     {NTK_RULE_WAIT_USED, NTK_RULE_WAIT_APART, "task", task_fields, COUNT(task_fields)},
     {NTK_RULE_HOLDER_USED, NTK_RULE_HOLDER_USED, "mutex", mutex_fields, COUNT(mutex_fields)},
     {NTK_RULE_TASK_WORKED, NTK_RULE_TASK_NOT_DUE, "task", task_fields, COUNT(task_fields)},
-    {NTK_RULE_TICK_RANGE, NTK_RULE_DEFAULT_MOST, NULL, single_fields, COUNT(single_fields)},
+    {NTK_RULE_TICK_RANGE, NTK_RULE_READY_WORD, NULL, single_fields, COUNT(single_fields)},
 };
 
 static void add_queue_name(struct line *line, unsigned long queue)
@@ -147,6 +147,25 @@ static void write_message_rule(FILE *out, struct ntk_reason reason, const uint8_
     write_entries(out, "messages", NTK_FIELD_MESSAGE, NTK_MESSAGE(channel, 0), NTK_MOST_MESSAGES, image);
 }
 
+/* The word's levels, and beside them the able tasks with theirs: their queue is right, as its rules come before. */
+static void write_ready_rule(FILE *out, struct ntk_reason reason, const uint8_t *image)
+{
+    struct line where = {0}, word = {0}, able = {0};
+    uint32_t j, task;
+
+    line_add(&where, "level %lu", (unsigned long)reason.number);
+    write_headline(out, where.text, reason.rule);
+    line_add(&word, "    ready word 0x%016llx, its levels: ", (unsigned long long)ntk_ready(image));
+    add_levels(&word, image);
+    write_line(out, word.text);
+    line_add(&able, "    able tasks:");
+    for (j = 0; j < NTK_TASKS && (task = ntk_task_of(ntk_slot_of(image, NTK_ABLE_QUEUE, j))) != NTK_NONE; j++)
+        line_add(&able, "%s %lu at level %llu", j ? "," : "", (unsigned long)task, (unsigned long long)ntk_priority_of(image, task));
+    if (j == 0)
+        line_add(&able, " none");
+    write_line(out, able.text);
+}
+
 static void write_reason(FILE *out, struct ntk_reason reason, const uint8_t *image)
 {
     struct line where = {0};
@@ -165,6 +184,8 @@ static void write_reason(FILE *out, struct ntk_reason reason, const uint8_t *ima
     }
     if (reason.rule == NTK_RULE_MESSAGE_RANGE || reason.rule == NTK_RULE_MESSAGE_UNUSED)
         write_message_rule(out, reason, image);
+    else if (reason.rule == NTK_RULE_READY_LEVELS)
+        write_ready_rule(out, reason, image);
     else
         write_queue_rule(out, reason, image);
 }

@@ -4,4 +4,6 @@ pub mod Put
 pub mod Fields
 pub mod Shapes
 pub mod Stands
+pub mod Neighbours
+pub mod Ready
 pub mod Queues

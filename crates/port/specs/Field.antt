@@ -92,8 +92,11 @@ queueFields = slots 0xE0 ∷ []
 abbrev pub messageFields : List Field
 messageFields = messages 0xE1 ∷ []
 
+abbrev pub readyField : ℕ
+readyField = 0xF4
+
 abbrev pub singleFields : List Field
-singleFields = single 0xF0 (λ t. t .tick) ∷ single 0xF1 (λ t. t .depth) ∷ single 0xF2 (λ t. t .running) ∷ single 0xF3 (λ t. t .defaultQuantum) ∷ []
+singleFields = single 0xF0 (λ t. t .tick) ∷ single 0xF1 (λ t. t .depth) ∷ single 0xF2 (λ t. t .running) ∷ single 0xF3 (λ t. t .defaultQuantum) ∷ single readyField (λ t. t .ready) ∷ []
 
 abbrev pub fields : List Field
 fields = taskFields ++ (objectFields ++ (groupFields ++ (channelFields ++ (queueFields ++ (messageFields ++ singleFields)))))

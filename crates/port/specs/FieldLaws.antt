@@ -4,16 +4,19 @@ use mathlib.Core.List.{List, [], _∷_, _++_}
 use mathlib.Core.Logic.{_≢_, _↔_}
 use mathlib.Core.Path.{_≡_, refl, sym, ap, subst, _∙_}
 use Prim.Native.Nat.{ℕ, _<_, _≤_, _/_, _%_}
+use native.Mathlib.Decide.{ℕ-discrete}
 use native.Mathlib.Omega.{arith}
 use lib.Dec.{eqb, ltb}
 use lib.ListN.{length}
-use borrow.Author.Tests.{eq-eqb, ne-eqb, le-ltb, ltb-true, leb-true}
+use borrow.Author.Tests.{eqb-true, eq-eqb, ne-eqb, le-ltb, ltb-true, leb-true}
 use Rattle.rules.specs.Sizes.{taskCount, channelCount, mostMessages}
 use Rattle.rules.specs.Table.{Table, queueCount}
+use Rattle.rules.specs.Ready.{bitOf, isSet}
+use Rattle.rules.specs.Sound.{Sound}
 use Rattle.rules.specs.Tape.{Bytes}
 use Rattle.table.specs.Image.{Image, imageSize, view}
 use Rattle.table.specs.Written.{Fits, view-fits}
-use Rattle.port.specs.Field.{noField, Field, taskFields, objectFields, groupFields, channelFields, queueFields, messageFields, singleFields, fields, shownIn, fieldOf, readOf, knownIn, known}
+use Rattle.port.specs.Field.{noField, readyField, Field, taskFields, objectFields, groupFields, channelFields, queueFields, messageFields, singleFields, fields, shownIn, fieldOf, readOf, knownIn, known}
 
 -- So it is of each field of the list.
 pub data Each (P : Field → Type 0) : List Field → Type 0 where
@@ -137,19 +140,19 @@ pub unknown-none : (f i : ℕ) (l : List ℕ) → known f i ≡ false → readOf
 unfolding readOf
 unknown-none f i l k = rw (unknown-in fields f i (view l) k) (cond-same (eqb (length l) imageSize) noField)
 
--- What each field shows has 32 bits.
+-- What each field shows has 32 bits; but for the word of ready levels.
 abbrev Small : Table → Field → Type 0
-Small t r = (i : ℕ) → i < r .count → r .shows t i < 4294967296
+Small t r = r .code ≢ readyField → (i : ℕ) → i < r .count → r .shows t i < 4294967296
 
-known-in : (t : Table) (l : List Field) → Each (Small t) l → (f i : ℕ) → knownIn l f i ≡ true → shownIn l f i t < 4294967296
+known-in : (t : Table) (l : List Field) → Each (Small t) l → (f i : ℕ) → f ≢ readyField → knownIn l f i ≡ true → shownIn l f i t < 4294967296
 unfolding knownIn shownIn
-known-in t l end f i k = absurd (true≢false (sym k))
-known-in t l (with {r} {rs} d e) f i k = go (eqb f (r .code)) k (known-in t rs e f i)
+known-in t l end f i n k = absurd (true≢false (sym k))
+known-in t l (with {r} {rs} d e) f i n k = go (eqb f (r .code)) refl k (known-in t rs e f i n)
   where
-    go : (b : Bool) → cond b (ltb i (r .count)) (knownIn rs f i) ≡ true → (knownIn rs f i ≡ true → shownIn rs f i t < 4294967296)
+    go : (b : Bool) → eqb f (r .code) ≡ b → cond b (ltb i (r .count)) (knownIn rs f i) ≡ true → (knownIn rs f i ≡ true → shownIn rs f i t < 4294967296)
         → cond b (cond (ltb i (r .count)) (r .shows t i) noField) (shownIn rs f i t) < 4294967296
-    go true k rest = rw k (d i (ltb-true i (r .count) k))
-    go false k rest = rest k
+    go true q k rest = rw k (d (λ z. n (eqb-true f (r .code) q ∙ z)) i (ltb-true i (r .count) k))
+    go false q k rest = rest k
 
 -- The same, written field by field.
 abbrev Listed : (Field → Type 0) → List Field → Type 0
@@ -168,47 +171,61 @@ _and_ a b = (a, b)
 all-small : (t : Table) → Fits t → Each (Small t) fields
 all-small t s =
     listed-each (Small t) fields (
-    (λ i h. omega (arith, s .tasks i h))
-    and (λ i h. omega (arith, s .tasks i h))
-    and (λ i h. omega (arith, s .tasks i h))
-    and (λ i h. omega (arith, s .tasks i h))
-    and (λ i h. omega (arith, s .tasks i h))
-    and (λ i h. omega (arith, s .tasks i h))
-    and (λ i h. omega (arith, s .tasks i h))
-    and (λ i h. omega (arith, s .tasks i h))
-    and (λ i h. omega (arith, s .tasks i h))
-    and (λ i h. omega (arith, s .tasks i h))
-    and (λ i h. omega (arith, s .tasks i h))
-    and (λ i h. omega (arith, s .tasks i h))
-    and (λ i h. omega (arith, s .tasks i h))
-    and (λ i h. omega (arith, s .tasks i h))
-    and (λ i h. omega (arith, s .tasks i h))
-    and (λ i h. omega (arith, s .semaphores i h))
-    and (λ i h. omega (arith, s .semaphores i h))
-    and (λ i h. omega (arith, s .mutexes i h))
-    and (λ i h. omega (arith, s .mutexes i h))
-    and (λ i h. omega (arith, s .mutexes i h))
-    and (λ i h. omega (arith, s .groups i h))
-    and (λ i h. omega (arith, s .groups i h))
-    and (λ i h. omega (arith, s .channels i h))
-    and (λ i h. omega (arith, s .channels i h))
-    and (λ i h. omega (arith, s .channels i h))
-    and (λ i h. let q : i / taskCount < queueCount = omega (arith, h) in omega (arith, s .queues (i / taskCount) q (i % taskCount)))
-    and (λ i h. let c : i / mostMessages < channelCount = omega (arith, h) in omega (arith, s .messages (i / mostMessages) c (i % mostMessages)))
-    and (λ i h. omega (arith, s .tick))
-    and (λ i h. omega (arith, s .depth))
-    and (λ i h. omega (arith, s .running))
-    and (λ i h. omega (arith, s .defaultQuantum))
+    (λ n i h. omega (arith, s .tasks i h))
+    and (λ n i h. omega (arith, s .tasks i h))
+    and (λ n i h. omega (arith, s .tasks i h))
+    and (λ n i h. omega (arith, s .tasks i h))
+    and (λ n i h. omega (arith, s .tasks i h))
+    and (λ n i h. omega (arith, s .tasks i h))
+    and (λ n i h. omega (arith, s .tasks i h))
+    and (λ n i h. omega (arith, s .tasks i h))
+    and (λ n i h. omega (arith, s .tasks i h))
+    and (λ n i h. omega (arith, s .tasks i h))
+    and (λ n i h. omega (arith, s .tasks i h))
+    and (λ n i h. omega (arith, s .tasks i h))
+    and (λ n i h. omega (arith, s .tasks i h))
+    and (λ n i h. omega (arith, s .tasks i h))
+    and (λ n i h. omega (arith, s .tasks i h))
+    and (λ n i h. omega (arith, s .semaphores i h))
+    and (λ n i h. omega (arith, s .semaphores i h))
+    and (λ n i h. omega (arith, s .mutexes i h))
+    and (λ n i h. omega (arith, s .mutexes i h))
+    and (λ n i h. omega (arith, s .mutexes i h))
+    and (λ n i h. omega (arith, s .groups i h))
+    and (λ n i h. omega (arith, s .groups i h))
+    and (λ n i h. omega (arith, s .channels i h))
+    and (λ n i h. omega (arith, s .channels i h))
+    and (λ n i h. omega (arith, s .channels i h))
+    and (λ n i h. let q : i / taskCount < queueCount = omega (arith, h) in omega (arith, s .queues (i / taskCount) q (i % taskCount)))
+    and (λ n i h. let c : i / mostMessages < channelCount = omega (arith, h) in omega (arith, s .messages (i / mostMessages) c (i % mostMessages)))
+    and (λ n i h. omega (arith, s .tick))
+    and (λ n i h. omega (arith, s .depth))
+    and (λ n i h. omega (arith, s .running))
+    and (λ n i h. omega (arith, s .defaultQuantum))
+    and (λ n i h. absurd (n refl))
     and tt
     )
 
-pub known-small : (f i : ℕ) (l : List ℕ) → Image l → Bytes l → known f i ≡ true → readOf f i l < 4294967296
-known-small f i l h b k = rw (read-right f i l h) (known-in (view l) fields (all-small (view l) (view-fits l h b)) f i k)
+pub known-small : (f i : ℕ) (l : List ℕ) → Image l → Bytes l → f ≢ readyField → known f i ≡ true → readOf f i l < 4294967296
+known-small f i l h b n k = rw (read-right f i l h) (known-in (view l) fields (all-small (view l) (view-fits l h b)) f i n k)
 
--- So of an image `noField` is read exactly where the field or the number is unknown.
-pub none-exactly : (f i : ℕ) (l : List ℕ) → Image l → Bytes l → (readOf f i l ≡ noField) ↔ (known f i ≡ false)
-none-exactly f i l h b = ((λ e. go (known f i) refl e), unknown-none f i l)
+-- The word is read where it is known.
+word-read : (i : ℕ) (l : List ℕ) → Image l → known readyField i ≡ true → readOf readyField i l ≡ view l .ready
+unfolding knownIn shownIn
+word-read i l h k = read-right readyField i l h ∙ rw k
+
+-- So of an image `noField` is read exactly where the field or the number is unknown; of the word's own field, where the word is not that number.
+pub none-exactly : (f i : ℕ) (l : List ℕ) → Image l → Bytes l → (f ≡ readyField → view l .ready ≢ noField) → (readOf f i l ≡ noField) ↔ (known f i ≡ false)
+none-exactly f i l h b w = ((λ e. go (known f i) refl (ℕ-discrete f readyField) e), unknown-none f i l)
   where
-    go : (k : Bool) → known f i ≡ k → readOf f i l ≡ noField → k ≡ false
-    go true k e = absurd (omega (arith, known-small f i l h b k, e))
-    go false k e = refl
+    go : (k : Bool) → known f i ≡ k → Dec (f ≡ readyField) → readOf f i l ≡ noField → k ≡ false
+    go true k (yes q) e = absurd (w q (sym (word-read i l h (rw q at k)) ∙ (rw q at e)))
+    go true k (no n) e = absurd (omega (arith, known-small f i l h b n k, e))
+    go false k q e = refl
+
+-- No sound table has it there: the lowest bit, of level 63, is never set.
+pub sound-word : {t : Table} → Sound t → t .ready ≢ noField
+unfolding isSet bitOf
+sound-word {t} s e =
+    let x = s .settled .queued .ready .levels 63 (omega arith) .0 (ap (isSet 63) e) in
+    omega (arith, x .level, s .settled .tasks (x .task) (x .range) .inRange .work)

@@ -14,9 +14,9 @@ use Rattle.rules.specs.declared.Reading.{Reading}
 use Rattle.rules.specs.declared.Reading.the-variants.{Says, Unknown}
 use Rattle.table.specs.Image.{imageSize, view, imageOf}
 
--- The library's version, which the header has too: 1.5.0.
+-- The library's version, which the header has too: 1.6.0.
 abbrev pub version : ℕ
-version = 10500
+version = 10600
 
 -- Where the bytes are an image's by their length, what the rules say of the table that they show; else 15.
 unfoldable pub sized : (Table → Outcome) → List ℕ → Outcome

@@ -131,6 +131,7 @@ fn single_field(field: u32, number: u32, s: &[u8]) -> u64
         0xF1 => table::numbers::get_depth(s) as u64,
         0xF2 => table::numbers::get_running(s) as u64,
         0xF3 => table::numbers::get_default(s) as u64,
+        0xF4 => table::numbers::get_ready(s),
         _ => NO_FIELD,
     }
 }

@@ -33,21 +33,6 @@ pub enum Answer {
     Full,
 }
 
-// The first slot that holds v, or the length.
-fn slot_of(ids: &[u8], v: usize) -> usize
-    ensures { λ r. ⌜ r ≡ firstAt (same v) (now (ids .entry)) ⌝ }
-{
-    let mut i = 0;
-    while i < ids.len() {
-        let y = ids[i] as usize;
-        if y == v {
-            return i;
-        }
-        i += 1;
-    }
-    i
-}
-
 // The slot j, and past the end a free one.
 fn slot_or_free(ids: &[u8], j: usize) -> u8
     ensures { λ r. ⌜ r ≡ getD (now (ids .entry)) j 0 ⌝ }
@@ -73,7 +58,7 @@ pub fn first(ids: &[u8]) -> Head
 pub fn find(ids: &[u8], id: u8) -> Found
     ensures { λ r. ⌜ r ≡ foundIn id (now (ids .entry)) ⌝ }
 {
-    let at = slot_of(ids, id as usize + 1);
+    let at = slides::slot_of(ids, id as usize + 1);
     if at < ids.len() {
         return Found::At(at);
     }
@@ -204,11 +189,11 @@ pub fn insert(ids: &mut [u8], keys: &[u8], id: u8) -> Answer
     if !is_known(keys, id) {
         return Answer::BeyondKeys;
     }
-    let at = slot_of(ids, id as usize + 1);
+    let at = slides::slot_of(ids, id as usize + 1);
     if at < ids.len() {
         return Answer::AlreadyThere;
     }
-    let free = slot_of(ids, 0);
+    let free = slides::slot_of(ids, 0);
     if ids.len() <= free {
         return Answer::Full;
     }
@@ -225,7 +210,7 @@ pub fn remove(ids: &mut [u8], id: u8) -> Answer
         close_front(ids);
         return Answer::Done;
     }
-    let at = slot_of(ids, v);
+    let at = slides::slot_of(ids, v);
     if ids.len() <= at {
         return Answer::NotThere;
     }
@@ -257,7 +242,7 @@ pub fn move_behind(ids: &mut [u8], keys: &[u8], id: u8) -> Answer
         return Answer::Done;
     }
     // No packed queue that has the id comes here: with a free slot before it one slide would leave something else.
-    let at = slot_of(ids, id as usize + 1);
+    let at = slides::slot_of(ids, id as usize + 1);
     if ids.len() <= at {
         return Answer::NotThere;
     }
@@ -290,7 +275,7 @@ fn is_fit(ids: &[u8], keys: &[u8], j: usize) -> bool
         return w == 0;
     }
     let rest = &ids[j + 1..];
-    let again = slot_of(rest, v as usize);
+    let again = slides::slot_of(rest, v as usize);
     let once = rest.len() <= again;
     let ordered = may_precede(keys, v, w);
     ((v as usize) <= keys.len()) & (once & ordered)

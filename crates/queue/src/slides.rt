@@ -3,8 +3,23 @@
 ghost use mathlib.Core.Path.{_≡_};
 ghost use lib.ListN.{length};
 ghost use Prim.Native.Nat.{_+_, _≤_, _<_};
-ghost use Rattle.queue.specs.Slots.{placeBehind};
+ghost use Rattle.queue.specs.Slots.{firstAt, same, placeBehind};
 ghost use Rattle.queue.specs.Slide.{lifted, slid, slidWithin, packedAt};
+
+// The first slot that holds v, or the length.
+pub fn slot_of(ids: &[u8], v: usize) -> usize
+    ensures { λ r. ⌜ r ≡ firstAt (same v) (now (ids .entry)) ⌝ }
+{
+    let mut i = 0;
+    while i < ids.len() {
+        let y = ids[i] as usize;
+        if y == v {
+            return i;
+        }
+        i += 1;
+    }
+    i
+}
 
 // The place of an id, where no slot before it is free, or the length.
 pub fn find_packed(ids: &[u8], id: u8) -> usize

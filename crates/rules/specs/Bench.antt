@@ -2,17 +2,19 @@
 use mathlib.Core.Path.{_≡_, refl}
 use mathlib.Core.Bool.{true, false}
 use mathlib.Core.List.{List, [], _∷_, _++_}
-use Prim.Native.Nat.{ℕ}
+use Prim.Native.Nat.{ℕ, _+_, _^_}
 use lib.ListN.{replicate}
 use Rattle.queue.specs.Slots.{firstAt, later, push, pull, opened, closed}
 use Rattle.queue.specs.Order.{count, mayPrecede, fits, isOrdered}
-use Rattle.rules.specs.Sound.{each, isShaped, marksIn, isTaskInRange, isNoTask, isNoSemaphore, isNoMutex, isNoGroup, isNoChannel, asksIn, isSoundTask, isSoundSemaphore, isSoundMutex, isSoundGroup, isSoundChannel, mayWait, isSoundWait, eachOf, isSoundObjects, isSoundQueues, isWorkedOut, isSoundNumbers, isSoundWithin, isSoundRuns, isSound}
+use Rattle.rules.specs.Sound.{each, isShaped, marksIn, isTaskInRange, isNoTask, isNoSemaphore, isNoMutex, isNoGroup, isNoChannel, asksIn, isSoundTask, isSoundSemaphore, isSoundMutex, isSoundGroup, isSoundChannel, mayWait, isSoundWait, eachOf, isSoundObjects, isSoundReady, isSoundQueues, isWorkedOut, isSoundNumbers, isSoundWithin, isSoundRuns, isSound}
 use Rattle.rules.specs.Messages.{present, laid, holding}
 use Rattle.rules.specs.Family.{ofState, placeOf}
 use Rattle.rules.specs.Sizes.{mostCount, delayed, plain, timedOut}
 use Rattle.rules.specs.Chain.{leads, smallest, fresh}
 use Rattle.rules.specs.Walk.{walkOn}
 use Rattle.rules.specs.Table.{Table, freshTable, taskOf, isAble, works, groupOf, semaphoreQueue, firstIn, written, withTick, holderOf}
+use lib.Count.{leadingZeros}
+use Rattle.rules.specs.Ready.{bitOf, isSet, withLevel, withoutLevel, firstLevel, levelsBelow, beside, readyWithout, readyWith}
 use Rattle.rules.specs.Move.{leave, join, stays, put, rotate, next, freshIn, ended, endedAll, chosen, peerBelow}
 use Rattle.rules.specs.Quantum.{quantumOf, defaultAnswer, setDefault}
 use Rattle.rules.specs.Task.{createAnswer, create, suspendAnswer, suspend, resumeAnswer, resume}
@@ -154,6 +156,17 @@ flushes t = serve (ChannelFlush 0) false t
 abbrev pub lone-task : Table
 lone-task = after freshTable (TaskCreate 1 5 0 ∷ SemaphoreCreate 0 0 ∷ MutexCreate 0 ∷ GroupCreate 0 0 ∷ ChannelCreate 0 1 ∷ [])
 
+-- Tasks 1 and 2 of level 5 and task 3 of level 10 are able.
+abbrev pub three-able : Table
+three-able = after freshTable (TaskCreate 3 10 0 ∷ TaskCreate 1 5 0 ∷ TaskCreate 2 5 0 ∷ [])
+
+-- The word, and the first level in it, after the first n of them have gone to sleep, one after another.
+abbrev asleep : ℕ → Table
+asleep n = after three-able (many n (Delay 9))
+
+abbrev first-of : Table → ℕ
+first-of t = firstLevel (t .ready)
+
 -- Who runs after each of six ticks.
 abbrev six-ticks : Table → List ℕ
 six-ticks t = runs t (many 6 Tick)
@@ -197,7 +210,7 @@ pub record Bench : Type 0 where
   -- P10. "Tick on the fresh table: 0, counter 1, none."
   pub p10 : (answers freshTable (Tick ∷ []) ≡ 0 ∷ []) × (after freshTable (Tick ∷ []) .tick ≡ 1) × (runs freshTable (Tick ∷ []) ≡ 0 ∷ [])
   -- Each of these tables is sound, so `serve` is what the kernel does there.
-  pub sound : (isSound p2-table ≡ true) × (isSound p3-table ≡ true) × (isSound p4-table ≡ true) × (isSound p5-table ≡ true) × (isSound p8-table ≡ true) × (isSound suspended-waiter ≡ true) × (isSound reader-waits ≡ true) × (isSound two-wait ≡ true) × (isSound decoder-comes ≡ true) × (isSound (takes-frames 3) ≡ true) × (isSound front-posted ≡ true) × (isSound lone-task ≡ true)
+  pub sound : (isSound p2-table ≡ true) × (isSound p3-table ≡ true) × (isSound p4-table ≡ true) × (isSound p5-table ≡ true) × (isSound p8-table ≡ true) × (isSound suspended-waiter ≡ true) × (isSound reader-waits ≡ true) × (isSound two-wait ≡ true) × (isSound decoder-comes ≡ true) × (isSound (takes-frames 3) ≡ true) × (isSound front-posted ≡ true) × (isSound lone-task ≡ true) × (isSound three-able ≡ true) × (isSound (asleep 3) ≡ true)
   -- An easy slip that those ten do not show: "A suspended waiter dropped from its queue." It stays there and is given the semaphore,
   -- and is able once it is resumed.
   pub waits-on : firstIn (semaphoreQueue 0) suspended-waiter ≡ written 1
@@ -229,9 +242,15 @@ pub record Bench : Type 0 where
   pub nobody-to-abort : answers lone-task (SemaphoreAbort 0 ∷ MutexAbort 0 ∷ GroupAbort 0 ∷ ChannelAbort 0 ∷ []) ≡ 19 ∷ 19 ∷ 19 ∷ 19 ∷ []
   -- "each in 12's place in the order": behind 2, and a yield's behind 7
   pub in-its-place : answers lone-task (Resume 2 ∷ DelayResume 2 ∷ ChannelAbort 1 ∷ Lock ∷ Yield ∷ []) ≡ 2 ∷ 2 ∷ 2 ∷ 0 ∷ 7 ∷ []
+  -- "Choosing the next task walks too many entries": the word tells the first level. A level's bit stays as long as it has an able task.
+  pub ready-words : (three-able .ready ≡ 2 ^ 58 + 2 ^ 53) × (asleep 1 .ready ≡ 2 ^ 58 + 2 ^ 53) × (asleep 2 .ready ≡ 2 ^ 53) × (asleep 3 .ready ≡ 0)
+  pub ready-first : (first-of three-able ≡ 5) × (first-of (asleep 1) ≡ 5) × (first-of (asleep 2) ≡ 10) × (first-of (asleep 3) ≡ 64)
+  pub ready-runs : (three-able .running ≡ written 1) × (asleep 1 .running ≡ written 2) × (asleep 2 .running ≡ written 3) × (asleep 3 .running ≡ 0)
+  -- Who is raised takes its bit along: of P2 task 3, which works at 5 and then at 7, where its base is 10.
+  pub ready-raised : (p2-table .ready ≡ 2 ^ 58) × (after p2-table (MutexPost 0 ∷ []) .ready ≡ 2 ^ 58 + 2 ^ 56)
 
 pub bench : Bench
-unfolding firstAt later push pull opened closed leads smallest fresh walkOn freshTable isAble placeOf works leave join stays put rotate holderOf next freshIn ended endedAll chosen peerBelow quantumOf defaultAnswer setDefault createAnswer create suspendAnswer suspend resumeAnswer resume yieldAnswer delayAnswer delay delayResumeAnswer lockAnswer lock unlockAnswer unlock objectCreateAnswer objectAbortAnswer blocked waits taken semaphore.create semaphore.waitAnswer semaphore.wait semaphore.postAnswer semaphore.post mutex.create mutex.waitAnswer mutex.wait mutex.postAnswer handed released mutex.post meeting isMet consumed woken group.create group.waitAnswer group.wait group.postAnswer group.post present laid holding delivered channel.createAnswer channel.create channel.waitAnswer channel.wait channel.postAnswer channel.post channel.flushAnswer channel.flush turned dueEnded dueBelow ticked answerTo changeBy toldBy forInterrupts answer effect serve toldIn widths ofKind reading spelled little sum numbers bodyLength callIn decimal runner line printedOf printed tape step count mayPrecede fits isOrdered each isShaped marksIn isTaskInRange isNoTask isNoSemaphore isNoMutex isNoGroup isNoChannel asksIn isSoundTask isSoundSemaphore isSoundMutex isSoundGroup isSoundChannel mayWait ofState eachOf isSoundWait isSoundObjects isSoundQueues isWorkedOut isSoundNumbers isSoundWithin isSoundRuns isSound after answers runs
+unfolding firstAt later push pull opened closed leads smallest fresh walkOn freshTable isAble placeOf works leadingZeros bitOf isSet withLevel withoutLevel firstLevel levelsBelow beside readyWithout readyWith leave join stays put rotate holderOf next freshIn ended endedAll chosen peerBelow quantumOf defaultAnswer setDefault createAnswer create suspendAnswer suspend resumeAnswer resume yieldAnswer delayAnswer delay delayResumeAnswer lockAnswer lock unlockAnswer unlock objectCreateAnswer objectAbortAnswer blocked waits taken semaphore.create semaphore.waitAnswer semaphore.wait semaphore.postAnswer semaphore.post mutex.create mutex.waitAnswer mutex.wait mutex.postAnswer handed released mutex.post meeting isMet consumed woken group.create group.waitAnswer group.wait group.postAnswer group.post present laid holding delivered channel.createAnswer channel.create channel.waitAnswer channel.wait channel.postAnswer channel.post channel.flushAnswer channel.flush turned dueEnded dueBelow ticked answerTo changeBy toldBy forInterrupts answer effect serve toldIn widths ofKind reading spelled little sum numbers bodyLength callIn decimal runner line printedOf printed tape step count mayPrecede fits isOrdered each isShaped marksIn isTaskInRange isNoTask isNoSemaphore isNoMutex isNoGroup isNoChannel asksIn isSoundTask isSoundSemaphore isSoundMutex isSoundGroup isSoundChannel mayWait ofState eachOf isSoundWait isSoundObjects isSoundReady isSoundQueues isWorkedOut isSoundNumbers isSoundWithin isSoundRuns isSound after answers runs
 bench =
     record {
       p1 = refl;
@@ -255,7 +274,7 @@ bench =
       p8 = (refl, refl);
       p9 = refl;
       p10 = (refl, refl, refl);
-      sound = (refl, refl, refl, refl, refl, refl, refl, refl, refl, refl, refl, refl);
+      sound = (refl, refl, refl, refl, refl, refl, refl, refl, refl, refl, refl, refl, refl, refl);
       waits-on = refl;
       is-given = (refl, refl);
       reader-alone = refl;
@@ -276,4 +295,8 @@ bench =
       by-telephone = refl;
       nobody-to-abort = refl;
       in-its-place = refl;
+      ready-words = (refl, refl, refl, refl);
+      ready-first = (refl, refl, refl, refl);
+      ready-runs = (refl, refl, refl, refl);
+      ready-raised = (refl, refl);
     }

@@ -5,9 +5,12 @@ pub mod Family
 pub mod Chain
 pub mod Afresh
 pub mod Walk
+pub mod Ready
 pub mod Move
 pub mod Sound
 pub mod Decides
+pub mod Digits
+pub mod Levels
 pub mod Tested
 pub mod Quantum
 pub mod Task

@@ -3,22 +3,29 @@ use mathlib.Core.Bool.{Bool, true, false, cond, _&&_, not}
 use Prim.Native.Nat.{ℕ, zero, suc, _+_, _-_}
 use lib.Dec.{eqb, ltb, leb}
 use Rattle.queue.specs.Slots.{behind, without, moved}
-use Rattle.rules.specs.Sizes.{taskCount, waitsMutex, delayed, plain}
+use Rattle.rules.specs.Sizes.{taskCount, levelCount, waitsMutex, delayed, plain}
 use Rattle.rules.specs.Chain.{fresh}
 use Rattle.rules.specs.Walk.{walkOn}
 use Rattle.rules.specs.declared.Task.{Task}
-use Rattle.rules.specs.Table.{Table, queueCount, ableQueue, taskOf, holderOf, queueOf, works, firstIn, isAble, written, withTask, withQueue, withRunning, withWork, withLeft, withState, withMark, withOutcome}
+use Rattle.rules.specs.Table.{Table, queueCount, ableQueue, taskOf, holderOf, queueOf, works, firstIn, isAble, written, withTask, withQueue, withRunning, withReady, withWork, withLeft, withState, withMark, withOutcome}
+use Rattle.rules.specs.Ready.{firstLevel, readyWithout, readyWith}
 use Rattle.rules.specs.Family.{placeOf}
 
 -- ---- the one door
 
 -- Task i leaves queue q, if there is such a queue.
 unfoldable pub leave : ℕ → ℕ → Table → Table
-leave q i t = let out = withQueue q (without i (queueOf t q)) t in cond (ltb q queueCount) out t
+leave q i t =
+    let word = cond (eqb q ableQueue) (readyWithout i t) (t .ready) in
+    let out = withReady word (withQueue q (without i (queueOf t q)) t) in
+    cond (ltb q queueCount) out t
 
 -- "Each is ordered by working priority, and among equals by arrival." Task i goes behind its equals in queue q, if there is such a queue.
 unfoldable pub join : ℕ → ℕ → Table → Table
-join q i t = let into = withQueue q (behind (works t) i (queueOf t q)) t in cond (ltb q queueCount) into t
+join q i t =
+    let word = cond (eqb q ableQueue) (readyWith i t) (t .ready) in
+    let into = withReady word (withQueue q (behind (works t) i (queueOf t q)) t) in
+    cond (ltb q queueCount) into t
 
 -- Whether place and working priority are as before.
 unfoldable pub stays : Task → Task → Bool
@@ -32,7 +39,7 @@ put i k t =
     let isTask = ltb i taskCount in
     let isThere = stays (taskOf t i) k in
     let there = withTask i k t in
-    let elsewhere = join (placeOf k) i (leave (placeOf (taskOf t i)) i there) in
+    let elsewhere = join (placeOf k) i (withTask i k (leave (placeOf (taskOf t i)) i t)) in
     cond isTask (cond isThere there elsewhere) t
 
 -- "the caller goes behind its equals, left = quantum": the able task i, at the end of its turn.
@@ -95,9 +102,13 @@ endedAll (suc n) outcome q t =
 
 -- ---- the running task
 
--- "Last, at depth 0, the first able task runs."
+-- "Last, at depth 0, the first able task runs." "The first level is found by counting the word's leading zeros": its first task is the first of
+-- the able queue, which stands in the order of levels.
 unfoldable pub chosen : Table → Table
-chosen t = cond (eqb (t .depth) 0) (withRunning (firstIn ableQueue t) t) t
+chosen t =
+    let isNone = eqb (firstLevel (t .ready)) levelCount in
+    let first = cond isNone 0 (firstIn ableQueue t) in
+    cond (eqb (t .depth) 0) (withRunning first t) t
 
 -- Whether the first n tasks have an able one other than i of the working priority of i.
 unfoldable pub peerBelow : ℕ → ℕ → Table → Bool

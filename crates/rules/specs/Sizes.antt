@@ -28,6 +28,14 @@ mostMessages = 32
 abbrev pub lastPriority : ℕ
 lastPriority = 62
 
+-- ---- "a 64-bit word": a bit for each level, and how many such words there are
+
+abbrev pub levelCount : ℕ
+levelCount = 64
+
+abbrev pub wordsRound : ℕ
+wordsRound = 18446744073709551616
+
 -- ---- "suspend count 0 to 250", "a nesting of 1 to 250", "Lock depth 0 to 250"
 
 abbrev pub mostNested : ℕ

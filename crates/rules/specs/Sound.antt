@@ -1,15 +1,16 @@
 -- "Standing rules (a sound table)": each rule as a field, and beside it the test that computes. `Tested` ties the two together.
 use mathlib.Core.Path.{_≡_}
-use mathlib.Core.Logic.{_⊎_}
+use mathlib.Core.Logic.{_⊎_, _↔_}
 use mathlib.Core.Bool.{Bool, true, false, cond, not, _&&_, _||_}
 use mathlib.Core.List.{List, [], _∷_}
 use Prim.Native.Nat.{ℕ, zero, suc, _-_, _≤_, _<_}
 use lib.Dec.{eqb, ltb, leb}
 use lib.ListN.{length, getD}
 use Rattle.queue.specs.Order.{All, Ordered, count, isOrdered}
-use Rattle.rules.specs.Sizes.{taskCount, semaphoreCount, mutexCount, groupCount, channelCount, mostMessages, greatestMessage, lastPriority, mostNested, mostQuantum, mostCount, ticksRound, flagSets, testCount, plain, delayed, waitsFlags, objectDeleted}
+use Rattle.rules.specs.Sizes.{taskCount, semaphoreCount, mutexCount, groupCount, channelCount, mostMessages, greatestMessage, lastPriority, levelCount, wordsRound, mostNested, mostQuantum, mostCount, ticksRound, flagSets, testCount, plain, delayed, waitsFlags, objectDeleted}
 use Rattle.rules.specs.Chain.{Fresh}
 use Rattle.rules.specs.Table.{Table, taskOf, semaphoreOf, mutexOf, groupOf, channelOf, rowOf, queueOf, queueCount, ableQueue, firstIn, works, isAble, written, noTask, noSemaphore, noMutex, noGroup, noChannel}
+use Rattle.rules.specs.Ready.{isSet, levelsBelow}
 use Rattle.rules.specs.Move.{next, baseOf, freshIn}
 use Rattle.rules.specs.Family.{Family, Among, families, lastState, objectsIn, placeOf}
 use Rattle.rules.specs.declared.Task.{Task}
@@ -268,6 +269,23 @@ isSoundObjects t =
     && (each taskCount (λ i. isSoundWait t i (taskOf t i .state) (taskOf t i .object))
     && each mutexCount (λ m. implies (not (eqb (mutexOf t m .holder) 0)) (eqb (taskOf t (mutexOf t m .holder - 1) .used) 1))))))
 
+-- ---- the word of ready levels
+
+-- Level l has an able task.
+pub record HasAble (l : ℕ) (t : Table) : Type 0 where
+  pub task : ℕ
+  pub range : task < taskCount
+  pub able : isAble (taskOf t task) ≡ true
+  pub level : taskOf t task .work ≡ l
+
+-- "a level's bit is set exactly if that level has an able task". There is no level 63, so the lowest bit is never set.
+pub record SoundReady (t : Table) : Type 0 where
+  pub word : t .ready < wordsRound
+  pub levels : Each levelCount (λ l. (isSet l (t .ready) ≡ true) ↔ HasAble l t)
+
+unfoldable pub isSoundReady : Table → Bool
+isSoundReady t = eqb (t .ready) (levelsBelow taskCount t)
+
 -- ---- the queues
 
 -- "The able queue holds each able task once and nothing else; each object's queue holds each of its waiters once and nothing else." "Queues
@@ -277,12 +295,14 @@ pub record SoundQueues (t : Table) : Type 0 where
   pub places : Each queueCount (λ q. Each taskCount (λ i. count (written i) (queueOf t q) ≡ once (eqb (placeOf (taskOf t i)) q)))
   pub nothingElse : Each queueCount (λ q. All (λ v. v ≤ taskCount) (queueOf t q))
   pub ordered : Each queueCount (λ q. Ordered (works t) (queueOf t q))
+  pub ready : SoundReady t
 
 unfoldable pub isSoundQueues : Table → Bool
 isSoundQueues t =
     isShaped t
     && (each queueCount (λ q. each taskCount (λ i. eqb (count (written i) (queueOf t q)) (once (eqb (placeOf (taskOf t i)) q))))
-    && each queueCount (λ q. isOrdered (works t) (queueOf t q)))
+    && (each queueCount (λ q. isOrdered (works t) (queueOf t q))
+    && isSoundReady t))
 
 -- ---- the working priorities
 

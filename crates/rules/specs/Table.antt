@@ -17,7 +17,7 @@ abbrev pub written : ℕ → ℕ
 written i = i + 1
 
 -- The tasks, semaphores, mutexes, groups of flags and channels, free or in use; one list of queues; tick counter, default quantum, lock depth and
--- the running task; and a row of messages for each channel.
+-- the running task; the word of ready levels; and a row of messages for each channel.
 pub record Table : Type 0 where
   pub tasks : List Task
   pub semaphores : List Semaphore
@@ -29,6 +29,7 @@ pub record Table : Type 0 where
   pub defaultQuantum : ℕ
   pub depth : ℕ
   pub running : ℕ
+  pub ready : ℕ
   pub messages : List (List ℕ)
 
 -- ---- free numbers: "a free number has zero fields"
@@ -129,37 +130,40 @@ abbrev pub roomFor : ℕ → Channel
 roomFor n = record { used = 1; capacity = n; held = 0 }
 
 abbrev pub withTasks : List Task → Table → Table
-withTasks x t = record { tasks = x; semaphores = t .semaphores; mutexes = t .mutexes; groups = t .groups; channels = t .channels; queues = t .queues; tick = t .tick; defaultQuantum = t .defaultQuantum; depth = t .depth; running = t .running; messages = t .messages }
+withTasks x t = record { tasks = x; semaphores = t .semaphores; mutexes = t .mutexes; groups = t .groups; channels = t .channels; queues = t .queues; tick = t .tick; defaultQuantum = t .defaultQuantum; depth = t .depth; running = t .running; ready = t .ready; messages = t .messages }
 
 abbrev pub withSemaphores : List Semaphore → Table → Table
-withSemaphores x t = record { tasks = t .tasks; semaphores = x; mutexes = t .mutexes; groups = t .groups; channels = t .channels; queues = t .queues; tick = t .tick; defaultQuantum = t .defaultQuantum; depth = t .depth; running = t .running; messages = t .messages }
+withSemaphores x t = record { tasks = t .tasks; semaphores = x; mutexes = t .mutexes; groups = t .groups; channels = t .channels; queues = t .queues; tick = t .tick; defaultQuantum = t .defaultQuantum; depth = t .depth; running = t .running; ready = t .ready; messages = t .messages }
 
 abbrev pub withMutexes : List Mutex → Table → Table
-withMutexes x t = record { tasks = t .tasks; semaphores = t .semaphores; mutexes = x; groups = t .groups; channels = t .channels; queues = t .queues; tick = t .tick; defaultQuantum = t .defaultQuantum; depth = t .depth; running = t .running; messages = t .messages }
+withMutexes x t = record { tasks = t .tasks; semaphores = t .semaphores; mutexes = x; groups = t .groups; channels = t .channels; queues = t .queues; tick = t .tick; defaultQuantum = t .defaultQuantum; depth = t .depth; running = t .running; ready = t .ready; messages = t .messages }
 
 abbrev pub withGroups : List Group → Table → Table
-withGroups x t = record { tasks = t .tasks; semaphores = t .semaphores; mutexes = t .mutexes; groups = x; channels = t .channels; queues = t .queues; tick = t .tick; defaultQuantum = t .defaultQuantum; depth = t .depth; running = t .running; messages = t .messages }
+withGroups x t = record { tasks = t .tasks; semaphores = t .semaphores; mutexes = t .mutexes; groups = x; channels = t .channels; queues = t .queues; tick = t .tick; defaultQuantum = t .defaultQuantum; depth = t .depth; running = t .running; ready = t .ready; messages = t .messages }
 
 abbrev pub withChannels : List Channel → Table → Table
-withChannels x t = record { tasks = t .tasks; semaphores = t .semaphores; mutexes = t .mutexes; groups = t .groups; channels = x; queues = t .queues; tick = t .tick; defaultQuantum = t .defaultQuantum; depth = t .depth; running = t .running; messages = t .messages }
+withChannels x t = record { tasks = t .tasks; semaphores = t .semaphores; mutexes = t .mutexes; groups = t .groups; channels = x; queues = t .queues; tick = t .tick; defaultQuantum = t .defaultQuantum; depth = t .depth; running = t .running; ready = t .ready; messages = t .messages }
 
 abbrev pub withQueues : List (List ℕ) → Table → Table
-withQueues x t = record { tasks = t .tasks; semaphores = t .semaphores; mutexes = t .mutexes; groups = t .groups; channels = t .channels; queues = x; tick = t .tick; defaultQuantum = t .defaultQuantum; depth = t .depth; running = t .running; messages = t .messages }
+withQueues x t = record { tasks = t .tasks; semaphores = t .semaphores; mutexes = t .mutexes; groups = t .groups; channels = t .channels; queues = x; tick = t .tick; defaultQuantum = t .defaultQuantum; depth = t .depth; running = t .running; ready = t .ready; messages = t .messages }
 
 abbrev pub withTick : ℕ → Table → Table
-withTick x t = record { tasks = t .tasks; semaphores = t .semaphores; mutexes = t .mutexes; groups = t .groups; channels = t .channels; queues = t .queues; tick = x; defaultQuantum = t .defaultQuantum; depth = t .depth; running = t .running; messages = t .messages }
+withTick x t = record { tasks = t .tasks; semaphores = t .semaphores; mutexes = t .mutexes; groups = t .groups; channels = t .channels; queues = t .queues; tick = x; defaultQuantum = t .defaultQuantum; depth = t .depth; running = t .running; ready = t .ready; messages = t .messages }
 
 abbrev pub withDefaultQuantum : ℕ → Table → Table
-withDefaultQuantum x t = record { tasks = t .tasks; semaphores = t .semaphores; mutexes = t .mutexes; groups = t .groups; channels = t .channels; queues = t .queues; tick = t .tick; defaultQuantum = x; depth = t .depth; running = t .running; messages = t .messages }
+withDefaultQuantum x t = record { tasks = t .tasks; semaphores = t .semaphores; mutexes = t .mutexes; groups = t .groups; channels = t .channels; queues = t .queues; tick = t .tick; defaultQuantum = x; depth = t .depth; running = t .running; ready = t .ready; messages = t .messages }
 
 abbrev pub withDepth : ℕ → Table → Table
-withDepth x t = record { tasks = t .tasks; semaphores = t .semaphores; mutexes = t .mutexes; groups = t .groups; channels = t .channels; queues = t .queues; tick = t .tick; defaultQuantum = t .defaultQuantum; depth = x; running = t .running; messages = t .messages }
+withDepth x t = record { tasks = t .tasks; semaphores = t .semaphores; mutexes = t .mutexes; groups = t .groups; channels = t .channels; queues = t .queues; tick = t .tick; defaultQuantum = t .defaultQuantum; depth = x; running = t .running; ready = t .ready; messages = t .messages }
 
 abbrev pub withRunning : ℕ → Table → Table
-withRunning x t = record { tasks = t .tasks; semaphores = t .semaphores; mutexes = t .mutexes; groups = t .groups; channels = t .channels; queues = t .queues; tick = t .tick; defaultQuantum = t .defaultQuantum; depth = t .depth; running = x; messages = t .messages }
+withRunning x t = record { tasks = t .tasks; semaphores = t .semaphores; mutexes = t .mutexes; groups = t .groups; channels = t .channels; queues = t .queues; tick = t .tick; defaultQuantum = t .defaultQuantum; depth = t .depth; running = x; ready = t .ready; messages = t .messages }
+
+abbrev pub withReady : ℕ → Table → Table
+withReady x t = record { tasks = t .tasks; semaphores = t .semaphores; mutexes = t .mutexes; groups = t .groups; channels = t .channels; queues = t .queues; tick = t .tick; defaultQuantum = t .defaultQuantum; depth = t .depth; running = t .running; ready = x; messages = t .messages }
 
 abbrev pub withMessages : List (List ℕ) → Table → Table
-withMessages x t = record { tasks = t .tasks; semaphores = t .semaphores; mutexes = t .mutexes; groups = t .groups; channels = t .channels; queues = t .queues; tick = t .tick; defaultQuantum = t .defaultQuantum; depth = t .depth; running = t .running; messages = x }
+withMessages x t = record { tasks = t .tasks; semaphores = t .semaphores; mutexes = t .mutexes; groups = t .groups; channels = t .channels; queues = t .queues; tick = t .tick; defaultQuantum = t .defaultQuantum; depth = t .depth; running = t .running; ready = t .ready; messages = x }
 
 -- one task, object or queue changed, or the row of one channel
 
@@ -267,5 +271,6 @@ freshTable =
       defaultQuantum = freshQuantum;
       depth = 0;
       running = 0;
+      ready = 0;
       messages = replicate channelCount (replicate mostMessages 0);
     }

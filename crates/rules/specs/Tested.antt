@@ -23,6 +23,7 @@ use Rattle.rules.specs.declared.Group.{Group}
 use Rattle.rules.specs.declared.Channel.{Channel}
 use Rattle.rules.specs.Sound.{Each, once, Shaped, isShaped, TaskInRange, isTaskInRange, isNoTask, isNoSemaphore, isNoMutex, isNoGroup, isNoChannel, SoundTask, isSoundTask, SoundSemaphore, isSoundSemaphore, SoundMutex, isSoundMutex, SoundGroup, isSoundGroup, SoundChannel, isSoundChannel, MayWait, mayWait, SoundWait, isSoundWait, SoundObjects, isSoundObjects, SoundQueues, isSoundQueues, isWorkedOut, SoundNumbers, isSoundNumbers, SoundWithin, isSoundWithin, SoundRuns, isSoundRuns, Sound, isSound}
 use Rattle.rules.specs.Family.{Family, placeOf}
+use Rattle.rules.specs.Levels.{ready}
 use Rattle.rules.specs.Decides.{Decides, equals, at-most, itself, fails, if-so, either, first, last, each-one, each-of}
 
 -- ---- shape and ranges
@@ -222,11 +223,12 @@ unfolding isSoundQueues
 queued t =
     first (λ r. r .shaped) (shaped t) λ shaped.
     first (λ r. r .places) (each-one λ q l. each-one λ i m. equals) λ places.
-    last
+    first
     (λ r q l. (r .nothingElse q l, r .ordered q l))
     (each-one λ q l. whole (keyed t shaped) (λ i m. omega (arith, places q l i m, once-most (eqb (placeOf (taskOf t i)) q))))
     λ order.
-    record { shaped = shaped; places = places; nothingElse = λ q l. order q l .0; ordered = λ q l. order q l .1 }
+    last (λ r. r .ready) (ready t) λ word.
+    record { shaped = shaped; places = places; nothingElse = λ q l. order q l .0; ordered = λ q l. order q l .1; ready = word }
 
 -- ---- working priorities
 

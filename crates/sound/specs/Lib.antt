@@ -3,6 +3,7 @@ pub mod Rows
 pub mod Channels
 pub mod Packed
 pub mod Lines
+pub mod Ready
 pub mod Queues
 pub mod Waits
 pub mod Walks

@@ -21,6 +21,7 @@ use Rattle.rules.specs.Sound.{Each, each, once, Shaped, SoundTask, SoundTasks, 
 use Rattle.rules.specs.Afresh.{lt-or-le}
 use Rattle.rules.specs.Tested.{once-most}
 use Rattle.rules.specs.Decides.{Decides, equals, at-most, itself, first, last, each-one}
+use Rattle.sound.specs.Ready.{worded, worded-ready, worded-shaped}
 use Rattle.laws.specs.queues.Rows.{last-queue, numbers}
 use Rattle.laws.specs.queues.Stands.{Place, ready, waits, nowhere, place}
 use Rattle.sound.specs.Packed.{Packed}
@@ -180,16 +181,18 @@ module _ {t : Table} {spots : List ℕ} (shaped : Shaped t) (tasks : SoundTasks 
       let passed = f q h rest in
       mark-next (place-most (tasks i l)) h (line q h .holds passed .alone i l) (struck-at (works t) q 0 (spotsAt spots t q) (queueOf t q) h (size q) (packed q h) passed i l) (rest i l)
 
-  pub queues-say : Decides (each queueCount (isLined spots t) && each taskCount (isMet (spotsAt spots t queueCount))) (SoundQueues t)
+  pub queues-say : Decides (each queueCount (isLined spots t) && each taskCount (isMet (spotsAt spots t queueCount))) (SoundQueues (worded t))
+  unfolding works
   queues-say =
       first (λ s q h. fits s q h (marks (fits s) q (omega arith))) (each-one λ q h. itself) λ passed.
       last (λ s i l. mark-due (place-most (tasks i l)) (marks (fits s) queueCount (omega arith) i l) (λ p h. s .places p h i l)) (each-one λ i l. at-most) λ met.
       record {
-        shaped = shaped;
+        shaped = worded-shaped shaped;
         places = λ q h i l. mark-end (place-most (tasks i l)) (marks (λ q h m. passed q h) queueCount (omega arith) i l) (met i l) q h;
         nothingElse = λ q h. line q h .holds (passed q h) .within;
         ordered = λ q h. line q h .holds (passed q h) .ordered;
+        ready = worded-ready t;
       }
     where
-      fits : SoundQueues t → (q : ℕ) → q < queueCount → Marked q → isLined spots t q ≡ true
+      fits : SoundQueues (worded t) → (q : ℕ) → q < queueCount → Marked q → isLined spots t q ≡ true
       fits s q h m = line q h .passes (record { ordered = s .ordered q h; within = s .nothingElse q h; alone = λ i l. mark-fits (place-most (tasks i l)) (s .places q h i l) (m i l) })

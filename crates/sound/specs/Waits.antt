@@ -14,6 +14,7 @@ use Rattle.rules.specs.Sound.{Each, each, eachOf, implies, Shaped, SoundTasks, 
 use Rattle.rules.specs.Afresh.{lt-or-le}
 use Rattle.rules.specs.Tested.{wait-right}
 use Rattle.rules.specs.Decides.{Decides, equals, at-most, itself, fails, if-so, first, last, both, each-one, each-of}
+use Rattle.sound.specs.Ready.{worded}
 use Rattle.laws.specs.queues.Rows.{among-mutexes, of-families, first-queue, last-queue, numbers, one-family, one-queue}
 use Rattle.laws.specs.queues.Stands.{free-place, waiter-place, waiter-there, first-range, first-there, empty-none}
 use Rattle.laws.specs.keeps.Objects.{may-apart}
@@ -111,9 +112,9 @@ module _ (t : Table) (q : ℕ) where
 pub waits-right : (t : Table) → Decides (areWaitsSound t && areHoldersUsed t) (Waits t × HoldersUsed t)
 waits-right t = both (each-one λ i l. wait-right t i (taskOf t i .state) (taskOf t i .object)) (each-one λ m l. if-so (fails equals) equals)
 
--- ---- where the queues are sound
+-- ---- where the queues are sound, whatever the word
 
-module _ {t : Table} (tasks : SoundTasks t) (s : SoundQueues t) where
+module _ (t : Table) (tasks : SoundTasks t) (s : SoundQueues (worded t)) where
   -- What is written in no task's place stands nowhere.
   placed-task : (j : ℕ) → placeOf (taskOf t j) < queueCount → j < taskCount
   placed-task j h = go (lt-or-le j taskCount)

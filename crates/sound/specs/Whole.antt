@@ -9,10 +9,11 @@ use lib.Dec.{eqb, leb}
 use borrow.Author.Tests.{eq-eqb, ne-eqb}
 use Rattle.rules.specs.Sizes.{taskCount, semaphoreCount, mutexCount, groupCount, channelCount, mostNested, mostQuantum, ticksRound}
 use Rattle.rules.specs.Table.{Table, taskOf, semaphoreOf, mutexOf, groupOf, channelOf, rowOf, queueCount, ableQueue, firstIn, isAble}
-use Rattle.rules.specs.Sound.{Each, each, Shaped, SoundTasks, SoundQueues, isSoundTask, isSoundSemaphore, isSoundMutex, isSoundGroup, isSoundChannel, isSoundQueues, isWorkedOut, SoundNumbers, isSoundNumbers, isSoundRuns, isSoundObjects, isSoundWithin, isSound}
+use Rattle.rules.specs.Sound.{Each, each, Shaped, SoundTasks, SoundQueues, isSoundTask, isSoundSemaphore, isSoundMutex, isSoundGroup, isSoundChannel, isSoundReady, isSoundQueues, isWorkedOut, SoundNumbers, isSoundNumbers, isSoundRuns, isSoundObjects, isSoundWithin, isSound}
 use Rattle.rules.specs.Tested.{queued, numbers-right}
 use Rattle.rules.specs.Decides.{Decides, equals, at-most, itself, fails, first, last, both, each-one}
 use Rattle.sound.specs.Tests.{same-test}
+use Rattle.sound.specs.Ready.{worded, word-apart}
 use Rattle.sound.specs.Rows.{areNotDue, areTasksSound, areObjectsSound}
 use Rattle.sound.specs.Packed.{leads, frees, slotCount, packed-all, ordered-packed}
 use Rattle.sound.specs.Queues.{Spotted, spotsAt, isLined, isMet, queues-say}
@@ -21,9 +22,9 @@ use Rattle.sound.specs.Walks.{isPassed, AllWalked}
 
 -- ---- the queues
 
--- The rules' own: the queues, who waits, who holds.
+-- The rules' own: the queues, who waits, who holds; apart from the word.
 abbrev pub areQueuesSound : Table → Bool
-areQueuesSound t = isSoundQueues t && (areWaitsSound t && areHoldersUsed t)
+areQueuesSound t = isSoundQueues (worded t) && (areWaitsSound t && areHoldersUsed t)
 
 each-both : (n : ℕ) (p q : ℕ → Bool) → each n (λ i. p i && q i) ≡ each n p && each n q
 each-both n p q = same-test pairs (first (λ r i l. r i l .0) (each-one λ i l. itself) λ x. last (λ r i l. r i l .1) (each-one λ i l. itself) λ y i l. (x i l, y i l))
@@ -69,11 +70,11 @@ module _ {t : Table} {spots : List ℕ} (shaped : Shaped t) (tasks : SoundTasks 
       go true e f = rw (e, f refl)
       go false e f = rw (ne-eqb (n + frees queueCount t) slotCount (λ z. omega arith))
 
-  say : Decides (arePacked && ((areLined && areMet (spotsAt spots t queueCount)) && (areFrontsSound && areHoldersSound))) (SoundQueues t × (Waits t × HoldersUsed t))
+  say : Decides (arePacked && ((areLined && areMet (spotsAt spots t queueCount)) && (areFrontsSound && areHoldersSound))) (SoundQueues (worded t) × (Waits t × HoldersUsed t))
   say =
       first (λ r q h. ordered-packed (r .0 .ordered q h)) (packed-all t (shaped .slots)) λ packed.
       first (λ r. r .0) (queues-say shaped tasks spotted packed) λ s.
-      last (λ r. r .1) (waits-say tasks s) λ w.
+      last (λ r. r .1) (waits-say t tasks s) λ w.
       (s, w)
 
   -- What the code tests of the queues.
@@ -83,7 +84,7 @@ module _ {t : Table} {spots : List ℕ} (shaped : Shaped t) (tasks : SoundTasks 
       told w
       ∙ ap (λ (b : Bool). b && (arePacked && (areMet (spotsAt spots t queueCount) && areHoldersSound))) (passed-both spots t)
       ∙ turned areLined areFrontsSound arePacked (areMet (spotsAt spots t queueCount)) areHoldersSound
-      ∙ same-test say (both (queued t) (waits-right t))
+      ∙ same-test say (both (queued (worded t)) (waits-right t))
 
 -- ---- the single numbers, and who runs
 
@@ -114,41 +115,43 @@ module _ (t : Table) where
 -- ---- all of it
 
 -- The tests in the order of the code and in that of the rules.
-reordered : (tasks notDue semaphores mutexes groups channels queues waits holders works numbers runs : Bool)
-    → (tasks && notDue) && ((semaphores && (mutexes && (groups && channels))) && ((queues && (waits && holders)) && (works && (numbers && runs))))
-    ≡ (queues && (works && (tasks && ((semaphores && (mutexes && (groups && (channels && (waits && holders))))) && numbers)))) && (notDue && runs)
-reordered tasks notDue semaphores mutexes groups channels queues waits holders works numbers runs =
+reordered : (tasks notDue semaphores mutexes groups channels queues word waits holders works numbers runs : Bool)
+    → (tasks && notDue) && ((semaphores && (mutexes && (groups && channels))) && ((queues && (waits && holders)) && (word && (works && (numbers && runs)))))
+    ≡ ((queues && word) && (works && (tasks && ((semaphores && (mutexes && (groups && (channels && (waits && holders))))) && numbers)))) && (notDue && runs)
+reordered tasks notDue semaphores mutexes groups channels queues word waits holders works numbers runs =
     same-test
-    (both (both (is tasks) (is notDue)) (both (both (is semaphores) (both (is mutexes) (both (is groups) (is channels)))) (both (both (is queues) (both (is waits) (is holders))) (both (is works) (both (is numbers) (is runs))))))
+    (both (both (is tasks) (is notDue)) (both (both (is semaphores) (both (is mutexes) (both (is groups) (is channels)))) (both (both (is queues) (both (is waits) (is holders))) (both (is word) (both (is works) (both (is numbers) (is runs)))))))
     (last
-    (λ ((ts, nd), ((se, (mu, (gr, ch))), ((qs, (wa, ho)), (wo, (nu, ru))))). ((qs, (wo, (ts, ((se, (mu, (gr, (ch, (wa, ho))))), nu)))), (nd, ru)))
-    (both (both (is queues) (both (is works) (both (is tasks) (both (both (is semaphores) (both (is mutexes) (both (is groups) (both (is channels) (both (is waits) (is holders)))))) (is numbers))))) (both (is notDue) (is runs)))
-    (λ ((qs, (wo, (ts, ((se, (mu, (gr, (ch, (wa, ho))))), nu)))), (nd, ru)). ((ts, nd), ((se, (mu, (gr, ch))), ((qs, (wa, ho)), (wo, (nu, ru)))))))
+    (λ ((ts, nd), ((se, (mu, (gr, ch))), ((qs, (wa, ho)), (rd, (wo, (nu, ru)))))). (((qs, rd), (wo, (ts, ((se, (mu, (gr, (ch, (wa, ho))))), nu)))), (nd, ru)))
+    (both (both (both (is queues) (is word)) (both (is works) (both (is tasks) (both (both (is semaphores) (both (is mutexes) (both (is groups) (both (is channels) (both (is waits) (is holders)))))) (is numbers))))) (both (is notDue) (is runs)))
+    (λ (((qs, rd), (wo, (ts, ((se, (mu, (gr, (ch, (wa, ho))))), nu)))), (nd, ru)). ((ts, nd), ((se, (mu, (gr, ch))), ((qs, (wa, ho)), (rd, (wo, (nu, ru))))))))
   where
     is : (b : Bool) → Decides b (b ≡ true)
     is b = itself
 
-sound-parts : (t : Table) → areTasksSound t && (areObjectsSound t && (areQueuesSound t && (isWorkedOut t && (isSoundNumbers t && isSoundRuns t)))) ≡ isSound t
+sound-parts : (t : Table) → areTasksSound t && (areObjectsSound t && (areQueuesSound t && (isSoundReady t && (isWorkedOut t && (isSoundNumbers t && isSoundRuns t))))) ≡ isSound t
 unfolding isSound isSoundWithin isSoundObjects
 sound-parts t =
-    reordered
+    rw (← word-apart t)
+    (reordered
     (each taskCount (λ i. isSoundTask (taskOf t i)))
     (areNotDue t)
     (each semaphoreCount (λ i. isSoundSemaphore (semaphoreOf t i)))
     (each mutexCount (λ i. isSoundMutex (mutexOf t i)))
     (each groupCount (λ i. isSoundGroup (groupOf t i)))
     (each channelCount (λ i. isSoundChannel (channelOf t i) (rowOf t i)))
-    (isSoundQueues t)
+    (isSoundQueues (worded t))
+    (isSoundReady t)
     (areWaitsSound t)
     (areHoldersUsed t)
     (isWorkedOut t)
     (isSoundNumbers t)
-    (isSoundRuns t)
+    (isSoundRuns t))
 
--- What the tests of the tasks and of the objects told.
+-- What the tests of the tasks, of the objects and of the queues told.
 module _ (t : Table) where
   abbrev pub others : Bool
-  others = areQueuesSound t && (isWorkedOut t && (isSoundNumbers t && isSoundRuns t))
+  others = isSoundReady t && (isWorkedOut t && (isSoundNumbers t && isSoundRuns t))
 
-  pub sound-told : {tasks objects : Bool} → areTasksSound t ≡ tasks → areObjectsSound t ≡ objects → tasks && (objects && others) ≡ isSound t
-  sound-told e f = ap₂ (λ (a b : Bool). a && (b && others)) (sym e) (sym f) ∙ sound-parts t
+  pub sound-told : {tasks objects queues : Bool} → areTasksSound t ≡ tasks → areObjectsSound t ≡ objects → areQueuesSound t ≡ queues → tasks && (objects && (queues && others)) ≡ isSound t
+  sound-told e f g = rw (← e, ← f, ← g) (sound-parts t)

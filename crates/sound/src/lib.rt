@@ -9,6 +9,7 @@ mod groups;
 mod mutexes;
 mod objects;
 mod queues;
+mod ready;
 mod semaphores;
 mod tasks;
 mod walk;
@@ -52,7 +53,8 @@ fn is_run_right(s: &[u8]) -> bool
 }
 
 // Whether the table that the image shows is sound. The queues are looked at where the tasks are right, so that each has a place. Objects that are
-// not right end the test too: without that end the compiler keeps the fields of all objects on the stack until the queues are walked.
+// not right end the test too: without that end the compiler keeps the fields of all objects on the stack until the queues are walked. The word is
+// looked at along the able queue, where the queues are right.
 pub fn is_sound(s: &[u8]) -> bool
     requires { ⌜ Image (now s) ⌝ }
     ensures { λ r. ⌜ r ≡ isSound (view (now (s .entry))) ⌝ }
@@ -63,6 +65,8 @@ pub fn is_sound(s: &[u8]) -> bool
     if !objects::are_objects_right(s) {
         return false;
     }
-    queues::are_queues_right(s)
-        & (works::are_works_right(s) & (are_numbers_right(s) & is_run_right(s)))
+    if !queues::are_queues_right(s) {
+        return false;
+    }
+    ready::is_word_right(s) & (works::are_works_right(s) & (are_numbers_right(s) & is_run_right(s)))
 }

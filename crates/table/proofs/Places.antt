@@ -1,11 +1,14 @@
 -- How tasks change their places, in the image and in the table.
 use mathlib.Core.Path.{_≡_, refl, sym, ap, ap₂, _∙_}
+use mathlib.Core.Logic.{⊎-elim}
+use mathlib.Core.Bool.{cond}
 use mathlib.Core.List.{List, []}
-use Prim.Native.Nat.{ℕ, _+_, _-_, _<_}
+use Prim.Native.Nat.{ℕ, _+_, _-_, _≤_, _<_}
 use native.Mathlib.Omega.{arith}
-use lib.ListN.{length, getD, take, drop, length-take, length-drop, List·getD-map}
-use lib.Seq.{ext-getD, getD-take, getD-drop, getD-set-same, set-set, map-set-same}
-use borrow.Author.Tests.{lt-ltb, eq-eqb, ne-eqb}
+use lib.Dec.{eqb}
+use lib.ListN.{length, getD, take, drop, length-take, length-drop}
+use lib.Seq.{ext-getD, getD-take, getD-drop, getD-set-same, set-set, set-out}
+use borrow.Author.Tests.{eq-eqb, ne-eqb}
 use borrow.Rule.Slice.PartMut.{putMid}
 use Rattle.queue.specs.Slots.{placeBehind, opened, behind, without, moved}
 use Rattle.queue.specs.Slide.{lifted, slidWithin, packedAt, slid-within, moved-packed}
@@ -15,15 +18,17 @@ use Rattle.columns.specs.Laws.{entry-read}
 use Rattle.columns.specs.Words.{byte-read}
 use Rattle.columns.specs.Rows.{tabulate-at, tabulate-long, tabulate-map, records}
 use Rattle.rules.specs.declared.Task.{Task}
-use Rattle.rules.specs.Sizes.{taskCount}
-use Rattle.rules.specs.Table.{Table, queueCount, taskOf, queueOf, works, firstIn, noTask, withTask, withQueue, withRunning, withWork, withLeft}
+use Rattle.rules.specs.Sizes.{taskCount, levelCount}
+use Rattle.rules.specs.Table.{Table, queueCount, ableQueue, taskOf, queueOf, works, firstIn, withTask, withQueues, withQueue, withRunning, withReady, withWork, withLeft}
 use Rattle.rules.specs.Family.{placeOf}
+use Rattle.rules.specs.Ready.{firstLevel, readyWith}
 use Rattle.rules.specs.Move.{leave, join, putWork, rotate, chosen}
-use Rattle.laws.specs.queues.Put.{place-same}
+use Rattle.rules.specs.Afresh.{lt-or-le}
+use Rattle.laws.specs.queues.Put.{place-same, rotate-in}
 use Rattle.table.specs.kinds.Task.{made, workColumn}
 use Rattle.table.specs.Image.{Image, slotCount, layout, view}
-use Rattle.table.specs.Shape.{view-shaped}
-use Rattle.table.specs.Settled.{put-works}
+use Rattle.table.specs.Ready.{wordLeft, wordJoined, left-other, joined-other, leave-is, join-is, works-stored}
+use Rattle.table.specs.Settled.{leave-none, join-none, put-works}
 use Rattle.table.specs.Queues.{queueAt, view-queue, view-slots, queue-put}
 
 -- ---- the working priorities are a column of bytes
@@ -42,28 +47,30 @@ view-works l h =
     go : (i : ℕ) → offset layout workColumn + i ≡ place layout workColumn i
     go i = omega arith
 
-pub work-at : (t : Table) (i : ℕ) → getD (works t) i 0 ≡ taskOf t i .work
+-- ---- leaving and joining: the word and the slots
+
+module _ (q i : ℕ) (t u v : Table) (h : q < queueCount) where
+  pub leaves : u ≡ withReady (wordLeft q i t) t → v ≡ withQueue q (without i (queueOf u q)) u → v ≡ leave q i t
+  leaves e d = d ∙ ap (λ (y : Table). withQueue q (without i (queueOf y q)) y) e ∙ sym (leave-is q i t h)
+
+  pub joins : u ≡ withQueue q (behind (works t) i (queueOf t q)) t → v ≡ withReady (wordJoined q i u) u → v ≡ join q i t
+  unfolding wordJoined readyWith
+  joins e d = d ∙ ap (λ (y : Table). withReady (wordJoined q i y) y) e ∙ sym (join-is q i t h)
+
+-- ---- slots
+
+-- A queue that there is not.
+pub moved-none : (q i : ℕ) (t : Table) → queueCount ≤ q → length (t .queues) ≡ queueCount → t ≡ withQueue q (moved (works t) i (queueOf t q)) t
+moved-none q i t h n = rw (set-out (t .queues) q (moved (works t) i (queueOf t q)) (omega arith))
+
+-- To leave the slots of a queue and to join them again.
+pub moved-again : (q i : ℕ) (t u v : Table) → q < queueCount → length (t .queues) ≡ queueCount → u ≡ withQueue q (without i (queueOf t q)) t → v ≡ withQueue q (behind (works u) i (queueOf u q)) u
+    → v ≡ withQueue q (moved (works t) i (queueOf t q)) t
 unfolding works
-work-at t i = List·getD-map (λ k. k .work) (t .tasks) i noTask
-
--- ---- leaving and joining
-
-module _ (q i : ℕ) (t : Table) where
-  pub leave-is : q < queueCount → leave q i t ≡ withQueue q (without i (queueOf t q)) t
-  unfolding leave
-  leave-is h = rw (lt-ltb q queueCount h)
-
-  pub join-is : q < queueCount → join q i t ≡ withQueue q (behind (works t) i (queueOf t q)) t
-  unfolding join
-  join-is h = rw (lt-ltb q queueCount h)
-
--- To leave a queue and to join it again changes that queue alone.
-rejoin-is : (q i : ℕ) (t : Table) → q < queueCount → length (t .queues) ≡ queueCount → join q i (leave q i t) ≡ withQueue q (moved (works t) i (queueOf t q)) t
-unfolding works
-rejoin-is q i t h n =
+moved-again q i t u v h n e d =
     let x : List ℕ = without i (queueOf t q) in
-    ap (join q i) (leave-is q i t h)
-    ∙ join-is q i (withQueue q x t) h
+    d
+    ∙ ap (λ (y : Table). withQueue q (behind (works y) i (queueOf y q)) y) e
     ∙ ap (λ (old : List ℕ). withQueue q (behind (works t) i old) (withQueue q x t)) (getD-set-same (t .queues) q x [] (omega arith))
     ∙ rw set-set
 
@@ -79,56 +86,89 @@ module _ (l : List ℕ) (q i : ℕ) (ys : List ℕ) (p : q < queueCount) (h : Im
   lent : take (a + slotCount - a) (drop a l) ≡ queueOf (view l) q
   lent = queue-lent l q p h
 
-  pub left-queue : ys ≡ without i (take (a + slotCount - a) (drop a l)) → view (putMid a (a + slotCount - a) l ys) ≡ leave q i (view l)
+  pub left-queue : ys ≡ without i (take (a + slotCount - a) (drop a l)) → view (putMid a (a + slotCount - a) l ys) ≡ withQueue q (without i (queueOf (view l) q)) (view l)
   left-queue e =
       let y : ys ≡ without i (queueOf (view l) q) = e ∙ ap (without i) lent in
       let n : length ys ≡ slotCount = ap length y ∙ length-without i (queueOf (view l) q) ∙ view-slots l h q p in
-      queue-put l q a (a + slotCount) h p refl refl ys n ∙ ap (λ (z : List ℕ). withQueue q z (view l)) y ∙ sym (leave-is q i (view l) p)
+      queue-put l q a (a + slotCount) h p refl refl ys n ∙ ap (λ (z : List ℕ). withQueue q z (view l)) y
 
-  pub joined-queue : (at : ℕ) → at ≡ placeBehind (works (view l)) (getD (works (view l)) i 0) (queueOf (view l) q) → ys ≡ opened at (i + 1) (take (a + slotCount - a) (drop a l)) → view (putMid a (a + slotCount - a) l ys) ≡ join q i (view l)
+  pub joined-queue : (at : ℕ) → at ≡ placeBehind (works (view l)) (getD (works (view l)) i 0) (queueOf (view l) q) → ys ≡ opened at (i + 1) (take (a + slotCount - a) (drop a l)) → view (putMid a (a + slotCount - a) l ys) ≡ withQueue q (behind (works (view l)) i (queueOf (view l) q)) (view l)
   joined-queue at e d =
       let y : ys ≡ behind (works (view l)) i (queueOf (view l) q) = d ∙ ap₂ (λ (a : ℕ) (z : List ℕ). opened a (i + 1) z) e lent in
       let n : length ys ≡ slotCount = ap length y ∙ length-behind (works (view l)) i (queueOf (view l) q) ∙ view-slots l h q p in
-      queue-put l q a (a + slotCount) h p refl refl ys n ∙ ap (λ (z : List ℕ). withQueue q z (view l)) y ∙ sym (join-is q i (view l) p)
+      queue-put l q a (a + slotCount) h p refl refl ys n ∙ ap (λ (z : List ℕ). withQueue q z (view l)) y
 
   -- A slide between two places, where no slot before the first is free, is what leaving and joining leave.
   pub rejoined-queue : (at to : ℕ) → at ≡ packedAt (i + 1) (queueOf (view l) q) → at < slotCount
       → to ≡ placeBehind (works (view l)) (getD (works (view l)) i 0) (lifted at (queueOf (view l) q))
-      → ys ≡ slidWithin at to (i + 1) (take (a + slotCount - a) (drop a l)) → view (putMid a (a + slotCount - a) l ys) ≡ join q i (leave q i (view l))
+      → ys ≡ slidWithin at to (i + 1) (take (a + slotCount - a) (drop a l)) → view (putMid a (a + slotCount - a) l ys) ≡ withQueue q (moved (works (view l)) i (queueOf (view l) q)) (view l)
   rejoined-queue at to e b is d =
       let x : List ℕ = queueOf (view l) q in
       let long : length x ≡ slotCount = view-slots l h q p in
       let m = moved-packed i at x e (omega arith) (works (view l)) to is in
       let y : ys ≡ moved (works (view l)) i x = d ∙ ap (slidWithin at to (i + 1)) lent ∙ slid-within at to (i + 1) x (omega arith) (m .0) ∙ m .1 in
       let n : length ys ≡ slotCount = ap length y ∙ length-behind (works (view l)) i (without i x) ∙ length-without i x ∙ long in
-      queue-put l q a (a + slotCount) h p refl refl ys n ∙ ap (λ (z : List ℕ). withQueue q z (view l)) y ∙ sym (rejoin-is q i (view l) p (view-shaped l h .queues))
+      queue-put l q a (a + slotCount) h p refl refl ys n ∙ ap (λ (z : List ℕ). withQueue q z (view l)) y
 
 -- ---- a task that goes behind its equals
 
--- Another working priority: the task leaves its queue and joins it again.
-pub work-moves : (i p : ℕ) (t : Table) → i < taskCount → (taskOf t i .work ≡ p → ⊥)
-    → putWork t i p ≡ join (placeOf (taskOf t i)) i (leave (placeOf (taskOf t i)) i (withTask i (withWork p (taskOf t i)) t))
-work-moves i p t l d =
-    let k = taskOf t i in
-    put-works i (withWork p k) t l d
-    ∙ ap (λ (q : ℕ). join q i (leave (placeOf k) i (withTask i (withWork p k) t))) (place-same k (withWork p k) refl refl refl refl)
+-- Another working priority: the task leaves its level, goes behind its equals, and joins the new level.
+module _ (i p q : ℕ) (t : Table) (l : i < taskCount) (n : length (t .queues) ≡ queueCount) (a : q ≡ placeOf (taskOf t i)) (d : taskOf t i .work ≡ p → ⊥) where
+  abbrev k : Task
+  k = withWork p (taskOf t i)
 
--- A rotation leaves the able queue and joins it again.
-pub rotate-is : (i : ℕ) (t : Table) → i < taskCount → 0 < length (t .queues) → rotate i t ≡ join 0 i (leave 0 i (withTask i (withLeft (taskOf t i .quantum) (taskOf t i)) t))
-unfolding rotate works
-rotate-is i t l h =
-    let u : Table = withTask i (withLeft (taskOf t i .quantum) (taskOf t i)) t in
-    let w : works u ≡ works t = map-set-same (λ (k : Task). k .work) (t .tasks) i _ noTask refl in
-    let x : List ℕ = without i (queueOf t 0) in
-    sym
-    (ap (join 0 i) (leave-is 0 i u (omega arith))
-    ∙ join-is 0 i _ (omega arith)
-    ∙ ap₂ (λ (keys old : List ℕ). withQueue 0 (behind keys i old) (withQueue 0 x u)) w (getD-set-same (t .queues) 0 x [] h)
-    ∙ rw (set-set, lt-ltb i taskCount l))
+  abbrev placed : Table
+  placed = withTask i k (withReady (wordLeft q i t) t)
+
+  abbrev slots : List ℕ
+  slots = moved (works placed) i (queueOf t q)
+
+  reworks : putWork t i p ≡ join q i (withTask i k (leave q i t))
+  reworks =
+      put-works i k t l d
+      ∙ ap (λ (x : ℕ). join x i (withTask i k (leave (placeOf (taskOf t i)) i t))) (place-same (taskOf t i) k refl refl refl refl)
+      ∙ ap (λ (x : ℕ). join x i (withTask i k (leave x i t))) (sym a)
+
+  rework-there : q < queueCount → withReady (wordJoined q i (withQueue q slots placed)) (withQueue q slots placed) ≡ putWork t i p
+  unfolding wordJoined readyWith works
+  rework-there h =
+      let x : List ℕ = without i (queueOf t q) in
+      let u : Table = withTask i k (withReady (wordLeft q i t) (withQueue q x t)) in
+      sym
+      (reworks
+      ∙ ap (λ (y : Table). join q i (withTask i k y)) (leave-is q i t h)
+      ∙ join-is q i u h
+      ∙ ap (λ (old : List ℕ). withReady (wordJoined q i u) (withQueue q (behind (works u) i old) u)) (getD-set-same (t .queues) q x [] (omega arith))
+      ∙ rw set-set)
+
+  rework-none : queueCount ≤ q → withReady (wordJoined q i (withQueue q slots placed)) (withQueue q slots placed) ≡ putWork t i p
+  rework-none h =
+      let away : (q ≡ 0 → ⊥) = λ e. omega arith in
+      ap (λ (w : ℕ). withReady w (withQueue q slots placed)) (joined-other q i (withQueue q slots placed) away)
+      ∙ ap (λ (x : List (List ℕ)). withQueues x placed) (set-out (t .queues) q slots (omega arith))
+      ∙ ap (λ (w : ℕ). withTask i k (withReady w t)) (left-other q i t away)
+      ∙ sym (reworks ∙ ap (λ (y : Table). join q i (withTask i k y)) (leave-none q i t h) ∙ join-none q i (withTask i k t) h)
+
+  pub reworked : (u v w x : Table) → u ≡ withReady (wordLeft q i t) t → v ≡ withTask i (withWork p (taskOf u i)) u → w ≡ withQueue q (moved (works v) i (queueOf v q)) v
+      → x ≡ withReady (wordJoined q i w) w → x ≡ putWork t i p
+  reworked u v w x e f g h =
+      h
+      ∙ ap (λ (y : Table). withReady (wordJoined q i y) y)
+      (g
+      ∙ ap (λ (y : Table). withQueue q (moved (works y) i (queueOf y q)) y)
+      (f ∙ ap (λ (y : Table). withTask i (withWork p (taskOf y i)) y) e))
+      ∙ ⊎-elim rework-there rework-none (lt-or-le q queueCount)
+
+-- A rotation moves the task within the able queue.
+pub rotate-is : (i : ℕ) (t u : Table) → i < taskCount → u ≡ withTask i (withLeft (taskOf t i .quantum) (taskOf t i)) t → withQueue 0 (moved (works u) i (queueOf u 0)) u ≡ rotate i t
+rotate-is i t u l e =
+    ap (λ (y : Table). withQueue 0 (moved (works y) i (queueOf y 0)) y) e
+    ∙ ap (λ (keys : List ℕ). withQueue 0 (moved keys i (queueOf t 0)) (withTask i (withLeft (taskOf t i .quantum) (taskOf t i)) t)) (works-stored i _ t refl)
+    ∙ sym (rotate-in i t l)
 
 -- ---- who runs
 
-pub chosen-is : (t : Table) → t .depth ≡ 0 → chosen t ≡ withRunning (firstIn 0 t) t
+pub chosen-is : (t : Table) → t .depth ≡ 0 → chosen t ≡ withRunning (cond (eqb (firstLevel (t .ready)) levelCount) 0 (firstIn ableQueue t)) t
 unfolding chosen
 chosen-is t h = rw (eq-eqb (t .depth) 0 h)
 

@@ -40,13 +40,16 @@ depthColumn = defaultColumn + 1
 abbrev pub runningColumn : ℕ
 runningColumn = depthColumn + 1
 
+abbrev pub readyColumn : ℕ
+readyColumn = runningColumn + 1
+
 abbrev pub numberColumns : List Column
-numberColumns = column 4 1 ∷ column 2 1 ∷ column 1 1 ∷ column 1 1 ∷ []
+numberColumns = column 4 1 ∷ column 2 1 ∷ column 1 1 ∷ column 1 1 ∷ column 8 1 ∷ []
 
 -- ---- messages: a row of numbers for each channel
 
 abbrev pub messageFirst : ℕ
-messageFirst = runningColumn + 1
+messageFirst = readyColumn + 1
 
 abbrev pub messageColumns : List Column
 messageColumns = replicate channelCount (column 4 mostMessages)
@@ -76,6 +79,7 @@ shown n =
       defaultQuantum = entry n defaultColumn 0;
       depth = entry n depthColumn 0;
       running = entry n runningColumn 0;
+      ready = entry n readyColumn 0;
       messages = runOf messageFirst channelCount n;
     }
 
@@ -91,7 +95,7 @@ numbersOf t =
     ++ (columnsOf group.kind (t .groups)
     ++ (columnsOf channel.kind (t .channels)
     ++ (t .queues
-    ++ (((t .tick ∷ []) ∷ (t .defaultQuantum ∷ []) ∷ (t .depth ∷ []) ∷ (t .running ∷ []) ∷ [])
+    ++ (((t .tick ∷ []) ∷ (t .defaultQuantum ∷ []) ∷ (t .depth ∷ []) ∷ (t .running ∷ []) ∷ (t .ready ∷ []) ∷ [])
     ++ t .messages))))))
 
 unfoldable pub imageOf : Table → List ℕ

@@ -4,6 +4,7 @@ pub mod Queues
 pub mod Messages
 pub mod Numbers
 pub mod Shape
+pub mod Ready
 pub mod Settled
 pub mod records
 pub mod Written

@@ -19,7 +19,7 @@ use Rattle.table.specs.kinds.Semaphore as semaphore
 use Rattle.table.specs.kinds.Mutex as mutex
 use Rattle.table.specs.kinds.Group as group
 use Rattle.table.specs.kinds.Channel as channel
-use Rattle.table.specs.Image.{queueFirst, tickColumn, defaultColumn, depthColumn, runningColumn, messageFirst, layout, Image, view}
+use Rattle.table.specs.Image.{queueFirst, tickColumn, defaultColumn, depthColumn, runningColumn, readyColumn, messageFirst, layout, Image, view}
 
 -- ---- the rows have numbers of four bytes, and are alike
 
@@ -78,5 +78,6 @@ module _ (l m : List ℕ) (c j v : ℕ) (h : Image l) (p : c < channelCount) (d 
         defaultQuantum = run-entry t k ys defaultColumn 0 (λ d. omega arith) x;
         depth = run-entry t k ys depthColumn 0 (λ d. omega arith) x;
         running = run-entry t k ys runningColumn 0 (λ d. omega arith) x;
+        ready = run-entry t k ys readyColumn 0 (λ d. omega arith) x;
         messages = run-set t k ys messageFirst channelCount c p refl (omega (arith, columns-long layout l)) x;
       })

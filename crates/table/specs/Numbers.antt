@@ -1,10 +1,14 @@
 -- The single numbers: what is read, and what one that is put changes.
 use mathlib.Core.Path.{_≡_, refl, sym, ap, _∙_}
 use mathlib.Core.Logic.{_⊎_, inl, inr}
-use mathlib.Core.Bool.{true}
+use mathlib.Core.Bool.{true, cond}
 use mathlib.Core.List.{List, [], _∷_}
 use Prim.Native.Nat.{ℕ, _+_, _*_, _≤_, _<_}
+use native.Mathlib.Nat.{add-zero}
+use native.Mathlib.Decide.{ℕ-discrete, decLt}
 use native.Mathlib.Omega.{arith}
+use lib.Dec.{eqb}
+use borrow.Author.Tests.{eq-eqb, ne-eqb}
 use Rattle.columns.specs.Columns.{wordAt, offset, columns, entry}
 use Rattle.columns.specs.Every.{every}
 use Rattle.columns.specs.Laws.{entry-read}
@@ -12,13 +16,13 @@ use Rattle.columns.specs.Rows.{Kind, records, single}
 use Rattle.columns.specs.Runs.{runOf, row-run}
 use Rattle.columns.specs.Views.{alike, putRow, RowFits, row-kept, row-entry, put-same, even-at}
 use Rattle.rules.specs.Sizes.{channelCount}
-use Rattle.rules.specs.Table.{queueCount, withTick, withDefaultQuantum, withDepth, withRunning}
+use Rattle.rules.specs.Table.{queueCount, withTick, withDefaultQuantum, withDepth, withRunning, withReady}
 use Rattle.table.specs.kinds.Task as task
 use Rattle.table.specs.kinds.Semaphore as semaphore
 use Rattle.table.specs.kinds.Mutex as mutex
 use Rattle.table.specs.kinds.Group as group
 use Rattle.table.specs.kinds.Channel as channel
-use Rattle.table.specs.Image.{queueFirst, tickColumn, defaultColumn, depthColumn, runningColumn, messageFirst, layout, Image, view}
+use Rattle.table.specs.Image.{queueFirst, tickColumn, defaultColumn, depthColumn, runningColumn, readyColumn, messageFirst, layout, Image, view}
 
 -- ---- what is read
 
@@ -39,6 +43,10 @@ module _ (l : List ℕ) where
   unfolding view
   view-running = sym (entry-read layout runningColumn 0 l (omega arith))
 
+  pub view-ready : wordAt 8 (offset layout readyColumn + 8 * 0) l ≡ view l .ready
+  unfolding view
+  view-ready = sym (entry-read layout readyColumn 0 l (omega arith))
+
 -- ---- what is put, in column k
 
 tick-even : alike (single tickColumn) layout ≡ true
@@ -56,6 +64,14 @@ depth-even = refl
 running-even : alike (single runningColumn) layout ≡ true
 unfolding every single
 running-even = refl
+
+ready-even : alike (single readyColumn) layout ≡ true
+unfolding every single
+ready-even = refl
+
+-- The number old, or v where it stands in column k.
+abbrev either : (k v j old : ℕ) → ℕ
+either k v j old = cond (eqb k j) v old
 
 module _ (k v : ℕ) (l : List ℕ) (h : Image l) (even : alike (single k) layout ≡ true) (b : (queueFirst + queueCount ≤ k) × (k < messageFirst)) (f : RowFits (single k) layout 0 (v ∷ [])) where
   abbrev put : List (List ℕ)
@@ -81,71 +97,49 @@ module _ (k v : ℕ) (l : List ℕ) (h : Image l) (even : alike (single k) layou
   unfolding single
   number-put = put-same layout (k + 0) 0 v l (omega arith) (even-at (single k) layout even 0 0 (omega arith) (omega arith)) (f .0 .1)
 
+  number-now : (m : ℕ) → entry put m 0 ≡ either k v m (entry (columns layout l) m 0)
+  number-now m = go (ℕ-discrete k m)
+    where
+      go : Dec (k ≡ m) → entry put m 0 ≡ either k v m (entry (columns layout l) m 0)
+      go (yes e) = rw (eq-eqb k m e) (ap (λ (j : ℕ). entry put j 0) (sym e ∙ sym (add-zero k)) ∙ number-put)
+      go (no d) = rw (ne-eqb k m d) (number-kept m (apart (decLt m k)))
+        where
+          apart : Dec (m < k) → (m < k) ⊎ (k + 1 ≤ m)
+          apart (yes q) = inl q
+          apart (no q) = inr (omega arith)
+
+  -- The number of column k becomes v, and nothing else changes.
+  single-put : (m : List ℕ) → m ≡ putRow (single k) layout 0 0 (v ∷ []) l
+      → view m ≡ withTick (either k v tickColumn (view l .tick)) (withDefaultQuantum (either k v defaultColumn (view l .defaultQuantum)) (withDepth (either k v depthColumn (view l .depth)) (withRunning (either k v runningColumn (view l .running)) (withReady (either k v readyColumn (view l .ready)) (view l)))))
+  unfolding view
+  single-put m e = ap view e ∙ λ x.
+      record {
+        tasks = others-kept task.kind (omega arith) x;
+        semaphores = others-kept semaphore.kind (omega arith) x;
+        mutexes = others-kept mutex.kind (omega arith) x;
+        groups = others-kept group.kind (omega arith) x;
+        channels = others-kept channel.kind (omega arith) x;
+        queues = queues-kept x;
+        tick = number-now tickColumn x;
+        defaultQuantum = number-now defaultColumn x;
+        depth = number-now depthColumn x;
+        running = number-now runningColumn x;
+        ready = number-now readyColumn x;
+        messages = messages-kept x;
+      }
+
 module _ (l m : List ℕ) (v : ℕ) (h : Image l) where
   pub tick-put : RowFits (single tickColumn) layout 0 (v ∷ []) → m ≡ putRow (single tickColumn) layout 0 0 (v ∷ []) l → view m ≡ withTick v (view l)
-  unfolding view
-  tick-put f e = ap view e ∙ λ x.
-      record {
-        tasks = others-kept tickColumn v l h tick-even (omega arith) f task.kind (omega arith) x;
-        semaphores = others-kept tickColumn v l h tick-even (omega arith) f semaphore.kind (omega arith) x;
-        mutexes = others-kept tickColumn v l h tick-even (omega arith) f mutex.kind (omega arith) x;
-        groups = others-kept tickColumn v l h tick-even (omega arith) f group.kind (omega arith) x;
-        channels = others-kept tickColumn v l h tick-even (omega arith) f channel.kind (omega arith) x;
-        queues = queues-kept tickColumn v l h tick-even (omega arith) f x;
-        tick = number-put tickColumn v l h tick-even (omega arith) f x;
-        defaultQuantum = number-kept tickColumn v l h tick-even (omega arith) f defaultColumn (inr (omega arith)) x;
-        depth = number-kept tickColumn v l h tick-even (omega arith) f depthColumn (inr (omega arith)) x;
-        running = number-kept tickColumn v l h tick-even (omega arith) f runningColumn (inr (omega arith)) x;
-        messages = messages-kept tickColumn v l h tick-even (omega arith) f x;
-      }
+  tick-put f = single-put tickColumn v l h tick-even (omega arith) f m
 
   pub default-put : RowFits (single defaultColumn) layout 0 (v ∷ []) → m ≡ putRow (single defaultColumn) layout 0 0 (v ∷ []) l → view m ≡ withDefaultQuantum v (view l)
-  unfolding view
-  default-put f e = ap view e ∙ λ x.
-      record {
-        tasks = others-kept defaultColumn v l h default-even (omega arith) f task.kind (omega arith) x;
-        semaphores = others-kept defaultColumn v l h default-even (omega arith) f semaphore.kind (omega arith) x;
-        mutexes = others-kept defaultColumn v l h default-even (omega arith) f mutex.kind (omega arith) x;
-        groups = others-kept defaultColumn v l h default-even (omega arith) f group.kind (omega arith) x;
-        channels = others-kept defaultColumn v l h default-even (omega arith) f channel.kind (omega arith) x;
-        queues = queues-kept defaultColumn v l h default-even (omega arith) f x;
-        tick = number-kept defaultColumn v l h default-even (omega arith) f tickColumn (inl (omega arith)) x;
-        defaultQuantum = number-put defaultColumn v l h default-even (omega arith) f x;
-        depth = number-kept defaultColumn v l h default-even (omega arith) f depthColumn (inr (omega arith)) x;
-        running = number-kept defaultColumn v l h default-even (omega arith) f runningColumn (inr (omega arith)) x;
-        messages = messages-kept defaultColumn v l h default-even (omega arith) f x;
-      }
+  default-put f = single-put defaultColumn v l h default-even (omega arith) f m
 
   pub depth-put : RowFits (single depthColumn) layout 0 (v ∷ []) → m ≡ putRow (single depthColumn) layout 0 0 (v ∷ []) l → view m ≡ withDepth v (view l)
-  unfolding view
-  depth-put f e = ap view e ∙ λ x.
-      record {
-        tasks = others-kept depthColumn v l h depth-even (omega arith) f task.kind (omega arith) x;
-        semaphores = others-kept depthColumn v l h depth-even (omega arith) f semaphore.kind (omega arith) x;
-        mutexes = others-kept depthColumn v l h depth-even (omega arith) f mutex.kind (omega arith) x;
-        groups = others-kept depthColumn v l h depth-even (omega arith) f group.kind (omega arith) x;
-        channels = others-kept depthColumn v l h depth-even (omega arith) f channel.kind (omega arith) x;
-        queues = queues-kept depthColumn v l h depth-even (omega arith) f x;
-        tick = number-kept depthColumn v l h depth-even (omega arith) f tickColumn (inl (omega arith)) x;
-        defaultQuantum = number-kept depthColumn v l h depth-even (omega arith) f defaultColumn (inl (omega arith)) x;
-        depth = number-put depthColumn v l h depth-even (omega arith) f x;
-        running = number-kept depthColumn v l h depth-even (omega arith) f runningColumn (inr (omega arith)) x;
-        messages = messages-kept depthColumn v l h depth-even (omega arith) f x;
-      }
+  depth-put f = single-put depthColumn v l h depth-even (omega arith) f m
 
   pub running-put : RowFits (single runningColumn) layout 0 (v ∷ []) → m ≡ putRow (single runningColumn) layout 0 0 (v ∷ []) l → view m ≡ withRunning v (view l)
-  unfolding view
-  running-put f e = ap view e ∙ λ x.
-      record {
-        tasks = others-kept runningColumn v l h running-even (omega arith) f task.kind (omega arith) x;
-        semaphores = others-kept runningColumn v l h running-even (omega arith) f semaphore.kind (omega arith) x;
-        mutexes = others-kept runningColumn v l h running-even (omega arith) f mutex.kind (omega arith) x;
-        groups = others-kept runningColumn v l h running-even (omega arith) f group.kind (omega arith) x;
-        channels = others-kept runningColumn v l h running-even (omega arith) f channel.kind (omega arith) x;
-        queues = queues-kept runningColumn v l h running-even (omega arith) f x;
-        tick = number-kept runningColumn v l h running-even (omega arith) f tickColumn (inl (omega arith)) x;
-        defaultQuantum = number-kept runningColumn v l h running-even (omega arith) f defaultColumn (inl (omega arith)) x;
-        depth = number-kept runningColumn v l h running-even (omega arith) f depthColumn (inl (omega arith)) x;
-        running = number-put runningColumn v l h running-even (omega arith) f x;
-        messages = messages-kept runningColumn v l h running-even (omega arith) f x;
-      }
+  running-put f = single-put runningColumn v l h running-even (omega arith) f m
+
+  pub ready-put : RowFits (single readyColumn) layout 0 (v ∷ []) → m ≡ putRow (single readyColumn) layout 0 0 (v ∷ []) l → view m ≡ withReady v (view l)
+  ready-put f = single-put readyColumn v l h ready-even (omega arith) f m

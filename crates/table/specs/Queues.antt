@@ -20,7 +20,7 @@ use Rattle.table.specs.kinds.Semaphore as semaphore
 use Rattle.table.specs.kinds.Mutex as mutex
 use Rattle.table.specs.kinds.Group as group
 use Rattle.table.specs.kinds.Channel as channel
-use Rattle.table.specs.Image.{slotCount, queueFirst, tickColumn, defaultColumn, depthColumn, runningColumn, messageFirst, layout, Image, view}
+use Rattle.table.specs.Image.{slotCount, queueFirst, tickColumn, defaultColumn, depthColumn, runningColumn, readyColumn, messageFirst, layout, Image, view}
 
 -- ---- the rows are bytes, and alike
 
@@ -76,5 +76,6 @@ module _ (l : List ℕ) (q a e : ℕ) (h : Image l) (p : q < queueCount) (s : a 
         defaultQuantum = run-entry t (queueFirst + q) ys defaultColumn 0 (λ d. omega arith) x;
         depth = run-entry t (queueFirst + q) ys depthColumn 0 (λ d. omega arith) x;
         running = run-entry t (queueFirst + q) ys runningColumn 0 (λ d. omega arith) x;
+        ready = run-entry t (queueFirst + q) ys readyColumn 0 (λ d. omega arith) x;
         messages = run-apart t (queueFirst + q) ys messageFirst channelCount (λ n o d. omega arith) x;
       })

@@ -1,5 +1,5 @@
 -- A task whose fields were stored, and the moves that make a `put` of it.
-use mathlib.Core.Path.{_≡_, refl, sym, ap, _∙_}
+use mathlib.Core.Path.{_≡_, refl, sym, ap, ap₂, _∙_}
 use mathlib.Core.Bool.{Bool, true, false, cond, _&&_}
 use Prim.Native.Nat.{ℕ, _≤_, _<_}
 use native.Mathlib.Omega.{arith}
@@ -13,7 +13,8 @@ use Rattle.rules.specs.Table.{Table, taskOf, queueCount, isAble, noTask, withTa
 use Rattle.rules.specs.Family.{ofState, placeOf}
 use Rattle.rules.specs.Decides.{equals, itself, both}
 use Rattle.rules.specs.Move.{leave, join, stays, put}
-use Rattle.laws.specs.queues.Put.{put-in, put-moves}
+use Rattle.laws.specs.queues.Put.{put-in, put-moves, leave-inv}
+use Rattle.table.specs.Ready.{leave-stored}
 
 -- Task i stood in queue q: where its place is another now, it leaves q and goes behind its equals in its own.
 unfoldable pub settled : ℕ → ℕ → Table → Table
@@ -44,6 +45,10 @@ module _ (q i : ℕ) (t : Table) where
 pub free-nowhere : queueCount ≤ placeOf noTask
 unfolding placeOf ofState isAble
 free-nowhere = omega arith
+
+-- No task's record changes.
+leave-tasks : (q i : ℕ) (t : Table) → leave q i t .tasks ≡ t .tasks
+leave-tasks q i t = leave-inv (λ u. u .tasks ≡ t .tasks) (λ p r w u e h. h) q i t refl
 
 -- ---- what is stored
 
@@ -77,11 +82,11 @@ module _ (i : ℕ) (k : Task) (t : Table) (l : i < taskCount) where
   put-same h = put-in i k t l ∙ rw h
 
   -- A record that stands in no queue: the task leaves its own.
-  pub put-leaves : queueCount ≤ placeOf k → put i k t ≡ leave (placeOf (taskOf t i)) i (withTask i k t)
+  pub put-leaves : queueCount ≤ placeOf k → put i k t ≡ withTask i k (leave (placeOf (taskOf t i)) i t)
   put-leaves h = go (stays (taskOf t i) k) refl
     where
-      go : (b : Bool) → stays (taskOf t i) k ≡ b → put i k t ≡ leave (placeOf (taskOf t i)) i (withTask i k t)
-      go true e = put-same e ∙ sym (leave-none _ i (withTask i k t) (omega (arith, same-place e)))
+      go : (b : Bool) → stays (taskOf t i) k ≡ b → put i k t ≡ withTask i k (leave (placeOf (taskOf t i)) i t)
+      go true e = put-same e ∙ ap (withTask i k) (sym (leave-none _ i t (omega (arith, same-place e))))
       go false e = put-moves i k t l e ∙ join-none _ i _ h
 
   -- A task that stands in no queue joins that of its record.
@@ -90,24 +95,24 @@ module _ (i : ℕ) (k : Task) (t : Table) (l : i < taskCount) where
     where
       go : (b : Bool) → stays (taskOf t i) k ≡ b → put i k t ≡ join (placeOf k) i (withTask i k t)
       go true e = put-same e ∙ sym (join-none _ i (withTask i k t) (omega (arith, same-place e)))
-      go false e = put-moves i k t l e ∙ ap (join (placeOf k) i) (leave-none _ i (withTask i k t) h)
+      go false e = put-moves i k t l e ∙ ap (λ (u : Table). join (placeOf k) i (withTask i k u)) (leave-none _ i t h)
 
   -- A record with the working priority as before: the task settles.
   pub put-settles : length (t .tasks) ≡ taskCount → taskOf t i .work ≡ k .work → put i k t ≡ settled (placeOf (taskOf t i)) i (withTask i k t)
   unfolding stays settled
   put-settles size w =
       let stands : taskOf (withTask i k t) i ≡ k = task-stored i t l size k in
-      put-in i k t l ∙ rw (eq-eqb _ _ w, stands, and-true (eqb (placeOf (taskOf t i)) (placeOf k)))
+      put-in i k t l ∙ rw (eq-eqb _ _ w, stands, and-true (eqb (placeOf (taskOf t i)) (placeOf k)), leave-stored (placeOf (taskOf t i)) i k t (sym w))
 
-  -- Another working priority: it leaves its queue and goes behind its equals.
-  pub put-works : (taskOf t i .work ≡ k .work → ⊥) → put i k t ≡ join (placeOf k) i (leave (placeOf (taskOf t i)) i (withTask i k t))
+  -- Another working priority: it leaves its queue with the old one and goes behind its equals with the new.
+  pub put-works : (taskOf t i .work ≡ k .work → ⊥) → put i k t ≡ join (placeOf k) i (withTask i k (leave (placeOf (taskOf t i)) i t))
   unfolding stays
   put-works d = put-moves i k t l (rw (ne-eqb _ _ d, and-false (eqb (placeOf (taskOf t i)) (placeOf k))))
 
   -- ---- the same, of the table u where the record is stored and of the queues that were read: q before, p after
 
-  pub left-put : (u : Table) → u ≡ withTask i k t → (q : ℕ) → q ≡ placeOf (taskOf t i) → queueCount ≤ placeOf k → leave q i u ≡ put i k t
-  left-put u e q a h = rw (a, e) (sym (put-leaves h))
+  pub left-put : (u : Table) → u ≡ withTask i k t → (q : ℕ) → q ≡ placeOf (taskOf t i) → taskOf t i .work ≡ k .work → queueCount ≤ placeOf k → leave q i u ≡ put i k t
+  left-put u e q a w h = rw (a, e) (leave-stored (placeOf (taskOf t i)) i k t (sym w) ∙ sym (put-leaves h))
 
   module _ (size : length (t .tasks) ≡ taskCount) (u : Table) (e : u ≡ withTask i k t) where
     place-after : placeOf (taskOf u i) ≡ placeOf k
@@ -119,5 +124,11 @@ module _ (i : ℕ) (k : Task) (t : Table) (l : i < taskCount) where
     pub joined-put : (p : ℕ) → p ≡ placeOf (taskOf u i) → queueCount ≤ placeOf (taskOf t i) → join p i u ≡ put i k t
     joined-put p b h = rw (b, place-after, e) (sym (put-joins h))
 
-    pub moved-put : (q p : ℕ) → q ≡ placeOf (taskOf t i) → p ≡ placeOf (taskOf u i) → (taskOf t i .work ≡ k .work → ⊥) → join p i (leave q i u) ≡ put i k t
-    moved-put q p a b d = rw (a, b, place-after, e) (sym (put-works d))
+  -- Another working priority: the table u, which the task has left, the table v, where its record is stored, and its queue p.
+  pub moved-put : length (t .tasks) ≡ taskCount → (u v : Table) (q p : ℕ) → q ≡ placeOf (taskOf t i) → u ≡ leave q i t → v ≡ withTask i k u → p ≡ placeOf (taskOf v i)
+      → (taskOf t i .work ≡ k .work → ⊥) → join p i v ≡ put i k t
+  moved-put size u v q p a b e h d =
+      let long : length (u .tasks) ≡ taskCount = ap (λ (x : Table). length (x .tasks)) b ∙ ap length (leave-tasks q i t) ∙ size in
+      let place : p ≡ placeOf k = h ∙ ap (λ (x : Table). placeOf (taskOf x i)) e ∙ ap placeOf (task-stored i u l long k) in
+      let stored : v ≡ withTask i k (leave (placeOf (taskOf t i)) i t) = e ∙ ap (withTask i k) (b ∙ ap (λ (x : ℕ). leave x i t) a) in
+      ap₂ (λ (x : ℕ) (y : Table). join x i y) place stored ∙ sym (put-works d)

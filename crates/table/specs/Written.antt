@@ -13,7 +13,7 @@ use Rattle.columns.specs.Runs.{same-run, run-back}
 use Rattle.columns.specs.Views.{same-none, same-next, same-one, same-all}
 use Rattle.columns.specs.Words.{bytes-drop, bytes-take}
 use Rattle.columns.specs.Whole.{records-fit, fits-none, fits-kind, fits-run, fits-one, fits-all}
-use Rattle.rules.specs.Sizes.{taskCount, semaphoreCount, mutexCount, groupCount, channelCount, mostMessages, greatestMessage}
+use Rattle.rules.specs.Sizes.{taskCount, semaphoreCount, mutexCount, groupCount, channelCount, mostMessages, greatestMessage, wordsRound}
 use Rattle.rules.specs.Table.{Table, queueCount, taskOf, semaphoreOf, mutexOf, groupOf, channelOf, queueOf, rowOf}
 use Rattle.rules.specs.Sound.{Each, Shaped, Sound}
 use Rattle.rules.specs.KindLaws.{all-at}
@@ -28,7 +28,7 @@ use Rattle.table.specs.records.Semaphore as semaphore-record
 use Rattle.table.specs.records.Mutex as mutex-record
 use Rattle.table.specs.records.Group as group-record
 use Rattle.table.specs.records.Channel as channel-record
-use Rattle.table.specs.Image.{slotCount, queueFirst, tickColumn, defaultColumn, depthColumn, runningColumn, messageFirst, layout, Image, view, numbersOf, imageOf}
+use Rattle.table.specs.Image.{slotCount, queueFirst, tickColumn, defaultColumn, depthColumn, runningColumn, readyColumn, messageFirst, layout, Image, view, numbersOf, imageOf}
 use Rattle.table.specs.Queues.{queue-wide, queue-even, queueAt, view-queue}
 use Rattle.table.specs.Messages.{message-wide, message-even, view-row-small}
 use Rattle.table.specs.Shape.{view-shaped}
@@ -40,6 +40,7 @@ unfolding view
 lossless l m h k b d e =
     same-all layout l m
     (same-run layout l m messageFirst channelCount (ap (λ (t : Table). t .messages) e)
+    (same-one layout l m readyColumn (ap (λ (t : Table). t .ready) e) refl
     (same-one layout l m runningColumn (ap (λ (t : Table). t .running) e) refl
     (same-one layout l m depthColumn (ap (λ (t : Table). t .depth) e) refl
     (same-one layout l m defaultColumn (ap (λ (t : Table). t .defaultQuantum) e) refl
@@ -50,7 +51,7 @@ lossless l m h k b d e =
     (same-next layout l m mutex.kind mutex-record.even (ap (λ (t : Table). t .mutexes) e)
     (same-next layout l m semaphore.kind semaphore-record.even (ap (λ (t : Table). t .semaphores) e)
     (same-next layout l m task.kind task-record.even (ap (λ (t : Table). t .tasks) e)
-    (same-none layout l m))))))))))))
+    (same-none layout l m)))))))))))))
     b d h k
 
 -- ---- the tables whose fields fit their bytes
@@ -67,6 +68,7 @@ pub record Fits (t : Table) : Type 0 where
   pub defaultQuantum : t .defaultQuantum < 65536
   pub depth : t .depth < 256
   pub running : t .running < 256
+  pub ready : t .ready < wordsRound
   pub messages : Each channelCount (λ c. Below 4 (rowOf t c))
 
 -- The table that an image of bytes shows fits.
@@ -85,6 +87,7 @@ view-fits l h b =
       defaultQuantum = entry-small layout l b defaultColumn 0;
       depth = entry-small layout l b depthColumn 0;
       running = entry-small layout l b runningColumn 0;
+      ready = entry-small layout l b readyColumn 0;
       messages = λ c p. view-row-small l c p b;
     }
 
@@ -111,6 +114,7 @@ sound-fits {t} s =
       defaultQuantum = omega (arith, s .settled .numbers .defaultMost);
       depth = omega (arith, s .settled .numbers .depth);
       running = omega (arith, s .runs .range);
+      ready = s .settled .queued .ready .word;
       messages = λ c h. row-fits (rowOf t c) (s .settled .queued .shaped .rows c h) (s .settled .objects .channels c h .messages);
     }
 
@@ -137,7 +141,7 @@ module _ {t : Table} (f : Fits t) where
   cs = columnsOf channel.kind (t .channels)
 
   abbrev ns : List (List ℕ)
-  ns = (t .tick ∷ []) ∷ (t .defaultQuantum ∷ []) ∷ (t .depth ∷ []) ∷ (t .running ∷ []) ∷ []
+  ns = (t .tick ∷ []) ∷ (t .defaultQuantum ∷ []) ∷ (t .depth ∷ []) ∷ (t .running ∷ []) ∷ (t .ready ∷ []) ∷ []
 
   abbrev past-qs : List (List ℕ)
   past-qs = ns ++ t .messages
@@ -209,8 +213,8 @@ module _ {t : Table} (f : Fits t) where
 
   at-rows : Stands messageFirst (t .messages) n
   at-rows =
-      further (queueCount + 4) (t .messages)
-      (past 4 queueCount (t .queues) (t .messages) past-qs (f .shaped .queues) (past 0 4 ns (t .messages) (t .messages) refl (last (t .messages))))
+      further (queueCount + 5) (t .messages)
+      (past 5 queueCount (t .queues) (t .messages) past-qs (f .shaped .queues) (past 0 5 ns (t .messages) (t .messages) refl (last (t .messages))))
 
   long : length n ≡ length layout
   unfolding numbersOf
@@ -221,6 +225,7 @@ module _ {t : Table} (f : Fits t) where
   numbers-fit =
       fits-all layout n long
       (fits-run layout n messageFirst channelCount 4 mostMessages message-wide message-even (t .messages) (f .shaped .messages) at-rows (f .shaped .rows) (f .messages)
+      (fits-one layout n readyColumn (t .ready) (at-ns 4 (omega arith)) refl (f .ready)
       (fits-one layout n runningColumn (t .running) (at-ns 3 (omega arith)) refl (f .running)
       (fits-one layout n depthColumn (t .depth) (at-ns 2 (omega arith)) refl (f .depth)
       (fits-one layout n defaultColumn (t .defaultQuantum) (at-ns 1 (omega arith)) refl (f .defaultQuantum)
@@ -231,7 +236,7 @@ module _ {t : Table} (f : Fits t) where
       (fits-kind layout n mutex.kind mutex-record.even (t .mutexes) at-ms (λ i p. mutex-record.small-fits _ (f .mutexes i p))
       (fits-kind layout n semaphore.kind semaphore-record.even (t .semaphores) at-ss (λ i p. semaphore-record.small-fits _ (f .semaphores i p))
       (fits-kind layout n task.kind task-record.even (t .tasks) at-ts (λ i p. task-record.small-fits _ (f .tasks i p))
-      (fits-none layout n))))))))))))
+      (fits-none layout n)))))))))))))
 
   pub image-length : Image (imageOf t)
   unfolding imageOf
@@ -253,6 +258,7 @@ module _ {t : Table} (f : Fits t) where
         defaultQuantum = ap (λ (c : List ℕ). getD c 0 0) (at-ns 1 (omega arith)) x;
         depth = ap (λ (c : List ℕ). getD c 0 0) (at-ns 2 (omega arith)) x;
         running = ap (λ (c : List ℕ). getD c 0 0) (at-ns 3 (omega arith)) x;
+        ready = ap (λ (c : List ℕ). getD c 0 0) (at-ns 4 (omega arith)) x;
         messages = run-back messageFirst channelCount n (t .messages) at-rows (f .shaped .messages) x;
       })
 

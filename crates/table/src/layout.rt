@@ -96,8 +96,10 @@ pub const DEPTH: usize = DEFAULT_QUANTUM + 2;
 
 pub const RUNNING: usize = DEPTH + 1;
 
+pub const READY: usize = RUNNING + 1;
+
 // The messages, four bytes each; those of channel c stand ROW * c behind.
-pub const MESSAGES: usize = RUNNING + 1;
+pub const MESSAGES: usize = READY + 8;
 
 pub const ROW: usize = 4 * MOST_MESSAGES;
 

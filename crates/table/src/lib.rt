@@ -3,6 +3,7 @@ pub mod channels;
 pub mod fresh;
 pub mod groups;
 pub mod layout;
+pub mod levels;
 pub mod messages;
 pub mod moves;
 pub mod mutexes;

@@ -1,18 +1,23 @@
-// How tasks change their places. A service stores the fields that it changes and then moves the task: `settle` where its place may be
-// another, `leave_queue` or `join_queue` where it is known to stand nowhere now or before; `Settled` says when that is the `put` of the
-// rules. A record is stored whole where a task is created or deleted. `rotate` is the one other move. And who runs.
+// How tasks change their places. A service stores the fields that it changes, the working priority not among them, and then moves the task:
+// `settle` where its place may be another, `leave_queue` or `join_queue` where it is known to stand nowhere now or before; `Settled` says when
+// that is the `put` of the rules. Where the working priority changes, the task leaves its level with the old one. A record is stored whole where
+// a task is created or deleted. `rotate` is the one other move, and stays within a level. And who runs.
 ghost use mathlib.Core.Path.{_≡_};
+ghost use mathlib.Core.Bool.{cond};
 ghost use Prim.Native.Nat.{_+_, _≤_, _<_};
+ghost use lib.Dec.{eqb};
 ghost use lib.ListN.{getD};
-ghost use Rattle.queue.specs.Slots.{placeBehind};
+ghost use Rattle.queue.specs.Slots.{placeBehind, behind, without, moved};
 ghost use Rattle.queue.specs.Slide.{lifted, packedAt};
-ghost use Rattle.rules.specs.Sizes.{taskCount};
-ghost use Rattle.rules.specs.Table.{queueCount, taskOf, queueOf, works, isAble, firstIn, noTask};
+ghost use Rattle.rules.specs.Sizes.{taskCount, levelCount};
+ghost use Rattle.rules.specs.Table.{queueCount, ableQueue, taskOf, queueOf, works, isAble, firstIn, noTask, withQueue};
 ghost use Rattle.rules.specs.Family.{placeOf};
+ghost use Rattle.rules.specs.Ready.{firstLevel};
 ghost use Rattle.rules.specs.Move.{leave, join, put, putWork, rotate, chosen};
 ghost use Rattle.table.specs.Image.{Image, slotCount, view};
 ghost use Rattle.table.specs.Settled.{settled};
 use crate::layout;
+use crate::levels;
 use crate::numbers;
 use crate::tasks;
 
@@ -53,7 +58,17 @@ pub fn place_of(s: &[u8], i: usize) -> usize
     layout::QUEUES
 }
 
-// Task i leaves queue q, if there is such a queue.
+// The slots of queue q without task i.
+fn remove_in(s: &mut [u8], q: usize, i: usize)
+    requires { ⌜ (i < taskCount) × (q < queueCount) × Image (now s) ⌝ }
+    ensures { λ _. ⌜ view (now (s .exit)) ≡ withQueue q (without i (queueOf (view (now (s .entry))) q)) (view (now (s .entry))) ⌝ }
+{
+    let a = layout::QUEUE + layout::SLOTS * q;
+    let e = a + layout::SLOTS;
+    queue::remove(&mut s[a..e], i as u8);
+}
+
+// Task i leaves queue q, if there is such a queue. The word asks who stands beside it, so it comes first.
 pub fn leave_queue(s: &mut [u8], q: usize, i: usize)
     requires { ⌜ (i < taskCount) × Image (now s) ⌝ }
     ensures { λ _. ⌜ view (now (s .exit)) ≡ leave q i (view (now (s .entry))) ⌝ }
@@ -61,9 +76,8 @@ pub fn leave_queue(s: &mut [u8], q: usize, i: usize)
     if layout::QUEUES <= q {
         return;
     }
-    let a = layout::QUEUE + layout::SLOTS * q;
-    let e = a + layout::SLOTS;
-    queue::remove(&mut s[a..e], i as u8);
+    levels::drop_in(s, q, i);
+    remove_in(s, q, i);
 }
 
 // Where task i goes in queue q: the queue and the keys are two parts of one slice.
@@ -81,6 +95,17 @@ fn place_in(s: &[u8], q: usize, i: usize) -> usize
     )
 }
 
+// The slots of queue q with task i behind its equals.
+fn insert_in(s: &mut [u8], q: usize, i: usize)
+    requires { ⌜ (i < taskCount) × (q < queueCount) × Image (now s) ⌝ }
+    ensures { λ _. ⌜ view (now (s .exit)) ≡ withQueue q (behind (works (view (now (s .entry)))) i (queueOf (view (now (s .entry))) q)) (view (now (s .entry))) ⌝ }
+{
+    let a = layout::QUEUE + layout::SLOTS * q;
+    let e = a + layout::SLOTS;
+    let at = place_in(s, q, i);
+    queue::open(&mut s[a..e], at, i as u8 + 1);
+}
+
 // Task i goes behind its equals in queue q, if there is such a queue.
 pub fn join_queue(s: &mut [u8], q: usize, i: usize)
     requires { ⌜ (i < taskCount) × Image (now s) ⌝ }
@@ -89,10 +114,8 @@ pub fn join_queue(s: &mut [u8], q: usize, i: usize)
     if layout::QUEUES <= q {
         return;
     }
-    let a = layout::QUEUE + layout::SLOTS * q;
-    let e = a + layout::SLOTS;
-    let at = place_in(s, q, i);
-    queue::open(&mut s[a..e], at, i as u8 + 1);
+    insert_in(s, q, i);
+    levels::add_in(s, q, i);
 }
 
 // Where task i stands in queue q, with no free slot before it, or SLOTS.
@@ -121,11 +144,11 @@ fn place_again(s: &[u8], q: usize, i: usize, at: usize) -> usize
     )
 }
 
-// Task i goes behind its equals in queue q, from where it stands there, if there is such a queue. Only the slots between the two places
+// The slots of queue q with task i behind its equals, from where it stands there, if there is such a queue. Only those between the two places
 // move, unless a free slot stands before the task, as in no queue that is packed.
-fn rejoin_queue(s: &mut [u8], q: usize, i: usize)
+fn move_in(s: &mut [u8], q: usize, i: usize)
     requires { ⌜ (i < taskCount) × Image (now s) ⌝ }
-    ensures { λ _. ⌜ view (now (s .exit)) ≡ join q i (leave q i (view (now (s .entry)))) ⌝ }
+    ensures { λ _. ⌜ view (now (s .exit)) ≡ withQueue q (moved (works (view (now (s .entry)))) i (queueOf (view (now (s .entry))) q)) (view (now (s .entry))) ⌝ }
 {
     if layout::QUEUES <= q {
         return;
@@ -138,8 +161,8 @@ fn rejoin_queue(s: &mut [u8], q: usize, i: usize)
         queue::slides::slide(&mut s[a..e], at, to, i as u8 + 1);
         return;
     }
-    leave_queue(s, q, i);
-    join_queue(s, q, i);
+    remove_in(s, q, i);
+    insert_in(s, q, i);
 }
 
 // Task i, whose fields were stored, but for its working priority, stood in queue q: where its place is another now, it leaves q and
@@ -161,14 +184,14 @@ fn put_in(s: &mut [u8], i: usize, k: rules::Task)
     ensures { λ _. ⌜ view (now (s .exit)) ≡ put i k (view (now (s .entry))) ⌝ }
 {
     let q = place_of(s, i);
-    let work = tasks::get_work(s, i);
-    tasks::store(s, i, k);
-    if work == k.work {
+    if tasks::get_work(s, i) == k.work {
+        tasks::store(s, i, k);
         settle(s, i, q);
         return;
     }
-    let new = place_of(s, i);
     leave_queue(s, q, i);
+    tasks::store(s, i, k);
+    let new = place_of(s, i);
     join_queue(s, new, i);
 }
 
@@ -189,8 +212,8 @@ pub fn clear_task(s: &mut [u8], i: usize)
     ensures { λ _. ⌜ view (now (s .exit)) ≡ put i noTask (view (now (s .entry))) ⌝ }
 {
     let q = place_of(s, i);
-    tasks::store(s, i, tasks::no_task());
     leave_queue(s, q, i);
+    tasks::store(s, i, tasks::no_task());
 }
 
 // The working priority of task i becomes p; where that is another, the task goes behind its equals.
@@ -202,8 +225,10 @@ pub fn rework_task(s: &mut [u8], i: usize, p: u8)
         return;
     }
     let q = place_of(s, i);
+    levels::drop_there(s, q, i);
     tasks::set_work(s, i, p);
-    rejoin_queue(s, q, i);
+    move_in(s, q, i);
+    levels::add_in(s, q, i);
 }
 
 fn rotate_in(s: &mut [u8], i: usize)
@@ -212,7 +237,7 @@ fn rotate_in(s: &mut [u8], i: usize)
 {
     let quantum = tasks::get_quantum(s, i);
     tasks::set_left(s, i, quantum);
-    rejoin_queue(s, layout::ABLE_QUEUE, i);
+    move_in(s, layout::ABLE_QUEUE, i);
 }
 
 // The able task i goes behind its equals, and has its whole quantum again.
@@ -245,6 +270,17 @@ pub fn slot_in(s: &[u8], q: usize, j: usize) -> u8
     s[layout::QUEUE + layout::SLOTS * q + j]
 }
 
+// The first able task, its number plus 1: the first level's first is the front of the able queue. 0 where no level has one.
+fn first_ready(s: &[u8]) -> u8
+    requires { ⌜ Image (now s) ⌝ }
+    ensures { λ r. ⌜ r ≡ cond (eqb (firstLevel (view (now (s .entry)) .ready)) levelCount) 0 (firstIn ableQueue (view (now (s .entry)))) ⌝ }
+{
+    if levels::first_level(s) == levels::LEVELS as u32 {
+        return 0;
+    }
+    first_in(s, layout::ABLE_QUEUE)
+}
+
 // At depth 0 the first able task runs.
 pub fn choose(s: &mut [u8])
     requires { ⌜ Image (now s) ⌝ }
@@ -252,7 +288,7 @@ pub fn choose(s: &mut [u8])
 {
     let d = numbers::get_depth(s);
     if d == 0 {
-        let v = first_in(s, layout::ABLE_QUEUE);
+        let v = first_ready(s);
         numbers::set_running(s, v);
     }
 }

@@ -1,7 +1,7 @@
-// The single numbers of the image: tick counter, default quantum, lock depth, and who runs.
+// The single numbers of the image: tick counter, default quantum, lock depth, who runs, and the word of ready levels.
 ghost use mathlib.Core.Path.{_≡_};
 ghost use Prim.Native.Nat.{_<_};
-ghost use Rattle.rules.specs.Table.{withTick, withDefaultQuantum, withDepth, withRunning};
+ghost use Rattle.rules.specs.Table.{withTick, withDefaultQuantum, withDepth, withRunning, withReady};
 ghost use Rattle.rules.specs.Time.{callerOf};
 ghost use Rattle.table.specs.Image.{Image, view};
 use crate::layout;
@@ -73,4 +73,18 @@ pub fn set_running(s: &mut [u8], v: u8)
     ensures { λ _. ⌜ view (now (s .exit)) ≡ withRunning v (view (now (s .entry))) ⌝ }
 {
     columns::put1(s, layout::RUNNING, 0, v);
+}
+
+pub fn get_ready(s: &[u8]) -> u64
+    requires { ⌜ Image (now s) ⌝ }
+    ensures { λ r. ⌜ r ≡ view (now (s .entry)) .ready ⌝ }
+{
+    columns::get8(s, layout::READY, 0)
+}
+
+pub fn set_ready(s: &mut [u8], word: u64)
+    requires { ⌜ Image (now s) ⌝ }
+    ensures { λ _. ⌜ view (now (s .exit)) ≡ withReady word (view (now (s .entry))) ⌝ }
+{
+    columns::put8(s, layout::READY, 0, word);
 }

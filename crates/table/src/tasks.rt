@@ -30,6 +30,17 @@ pub fn get_work(s: &[u8], i: usize) -> u8
     columns::get1(s, layout::WORK, i)
 }
 
+// The same of every number, 0 where it is no task's, as one that a slot of an image which is not sound may hold.
+pub fn work_at(s: &[u8], i: usize) -> u8
+    requires { ⌜ Image (now s) ⌝ }
+    ensures { λ r. ⌜ r ≡ taskOf (view (now (s .entry))) i .work ⌝ }
+{
+    if layout::TASKS <= i {
+        return 0;
+    }
+    get_work(s, i)
+}
+
 pub fn get_suspend(s: &[u8], i: usize) -> u8
     requires { ⌜ (i < taskCount) × Image (now s) ⌝ }
     ensures { λ r. ⌜ r ≡ taskOf (view (now (s .entry))) i .suspend ⌝ }

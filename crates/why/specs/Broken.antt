@@ -4,18 +4,19 @@
 -- is one line for each field of the records in the rules' `Sound`, in its words: `(.. → ⊥)` before the end of a line is "and it is not so that ..". `whyOf`
 -- in `Tests` computes such a rule and record, and `Theorem` says that there is one exactly where the table is not sound, and that it is the first.
 use mathlib.Core.Path.{_≡_}
-use mathlib.Core.Logic.{_⊎_}
+use mathlib.Core.Logic.{_⊎_, _↔_}
 use mathlib.Core.Bool.{true}
 use Prim.Native.Nat.{ℕ, _+_, _*_, _-_, _/_, _%_, _≤_, _<_}
 use lib.Dec.{eqb}
 use lib.ListN.{getD}
 use Rattle.queue.specs.Order.{Le, count}
-use Rattle.rules.specs.Sizes.{taskCount, semaphoreCount, mutexCount, groupCount, channelCount, mostMessages, greatestMessage, lastPriority, mostNested, mostQuantum, mostCount, ticksRound, flagSets, testCount, plain, delayed, waitsFlags, objectDeleted}
+use Rattle.rules.specs.Sizes.{taskCount, semaphoreCount, mutexCount, groupCount, channelCount, mostMessages, greatestMessage, lastPriority, levelCount, wordsRound, mostNested, mostQuantum, mostCount, ticksRound, flagSets, testCount, plain, delayed, waitsFlags, objectDeleted}
 use Rattle.rules.specs.Chain.{Fresh}
 use Rattle.rules.specs.Table.{Table, taskOf, semaphoreOf, mutexOf, groupOf, channelOf, rowOf, queueOf, queueCount, ableQueue, firstIn, slotIn, works, isAble, written, noTask, noSemaphore, noMutex, noGroup, noChannel}
+use Rattle.rules.specs.Ready.{isSet}
 use Rattle.rules.specs.Move.{next, baseOf}
 use Rattle.rules.specs.Family.{Family, Among, families, lastState, objectsIn, placeOf}
-use Rattle.rules.specs.Sound.{once, marksIn, asksIn}
+use Rattle.rules.specs.Sound.{once, marksIn, asksIn, HasAble}
 
 -- The records of the rules on queues: number n is task or slot `slotAt n` of queue `queueAt n`, so slot j of queue q is 32 q + j.
 abbrev pub recordCount : ℕ
@@ -112,3 +113,6 @@ pub data Broken (t : Table) : (rule number : ℕ) → Type 0 where
   runningAble : (((t .depth ≡ 0 → ⊥) → (t .running ≡ 0) ⊎ (isAble (taskOf t (t .running - 1)) ≡ true)) → ⊥) → Broken t 0xB4 0
   defaultLeast : (1 ≤ t .defaultQuantum → ⊥) → Broken t 0xB5 0
   defaultMost : (t .defaultQuantum ≤ mostQuantum → ⊥) → Broken t 0xB6 0
+  readyWord : (t .ready < wordsRound → ⊥) → Broken t 0xB7 0
+  -- ---- "a level's bit is set exactly if that level has an able task": of a level
+  readyLevels : {l : ℕ} → l < levelCount → (((isSet l (t .ready) ≡ true) ↔ HasAble l t) → ⊥) → Broken t 0xB8 l

@@ -16,10 +16,11 @@ use Rattle.rules.specs.Family.{placeOf}
 use Rattle.rules.specs.Sound.{Shaped, once}
 use Rattle.rules.specs.Decides.{Decides, equals, at-most, itself, fails, if-so, either, each-of}
 use Rattle.rules.specs.Tested.{no-task, no-semaphore, no-mutex, no-group, no-channel, ends, worked}
-use Rattle.why.specs.Broken.{OfAwaited, Broken, queueAt, slotAt, taskUsed, taskBase, taskWork, taskSuspend, taskQuantum, taskLeft, taskState, taskObject, taskMarked, taskDue, taskOutcome, taskMask, taskTest, taskConsume, taskMessage, taskFree, taskPlainMark, taskDelayMark, taskLeftMost, taskAsks, taskTurn, semaphoreUsed, semaphoreCounts, semaphoreFree, mutexUsed, mutexHolder, mutexNesting, mutexFree, mutexUnheld, mutexHeld, groupUsed, groupFlags, groupFree, channelUsed, channelCapacity, channelHeld, channelFree, channelRoom, messageRange, messageUnused, waitUsed, waitNothing, waitApart, holderUsed, queuePlaces, queueNothingElse, queueOrdered, taskWorked, taskNotDue, tickRange, depthRange, runningRange, runningFirst, runningAble, defaultLeast, defaultMost}
+use Rattle.why.specs.Broken.{OfAwaited, Broken, queueAt, slotAt, taskUsed, taskBase, taskWork, taskSuspend, taskQuantum, taskLeft, taskState, taskObject, taskMarked, taskDue, taskOutcome, taskMask, taskTest, taskConsume, taskMessage, taskFree, taskPlainMark, taskDelayMark, taskLeftMost, taskAsks, taskTurn, semaphoreUsed, semaphoreCounts, semaphoreFree, mutexUsed, mutexHolder, mutexNesting, mutexFree, mutexUnheld, mutexHeld, groupUsed, groupFlags, groupFree, channelUsed, channelCapacity, channelHeld, channelFree, channelRoom, messageRange, messageUnused, waitUsed, waitNothing, waitApart, holderUsed, queuePlaces, queueNothingElse, queueOrdered, taskWorked, taskNotDue, tickRange, depthRange, runningRange, runningFirst, runningAble, defaultLeast, defaultMost, readyWord, readyLevels}
 use Rattle.why.specs.Tests.{Test, tests, keptIn, isKept, ruleEnd, recordEnd, ofAwaited, isObjectUsed, offersNothing, isApart, isHolderUsed, isPlaced, mayRun}
 use Rattle.why.specs.TestLaws.{Every, end, with}
 use Rattle.why.specs.Slots.{stand-decides}
+use Rattle.why.specs.Ready.{level-decides}
 
 -- ---- decisions
 
@@ -137,6 +138,8 @@ broken-fails {t} w (runningFirst n) = (omega arith, omega arith, refuted (if-so 
 broken-fails {t} w (runningAble n) = (omega arith, omega arith, refuted (if-so (fails equals) (run-decides t)) n)
 broken-fails {t} w (defaultLeast n) = (omega arith, omega arith, refuted at-most n)
 broken-fails {t} w (defaultMost n) = (omega arith, omega arith, refuted at-most n)
+broken-fails {t} w (readyWord n) = (omega arith, omega arith, refuted at-most n)
+broken-fails {t} w (readyLevels {l} h n) = (omega arith, h, outside h (level-decides t l) n)
 
 -- ---- what fails is broken
 
@@ -234,6 +237,8 @@ all-break t w =
     and (λ i h e. at-zero h (runningAble (refutes (if-so (fails equals) (run-decides t)) e)))
     and (λ i h e. at-zero h (defaultLeast (refutes at-most e)))
     and (λ i h e. at-zero h (defaultMost (refutes at-most e)))
+    and (λ i h e. at-zero h (readyWord (refutes at-most e)))
+    and (λ i h e. readyLevels h (refutes (level-decides t i) e))
     and tt
     )
 

@@ -14,9 +14,10 @@ use Rattle.rules.specs.Sound.{once, Shaped, TaskInRange, SoundTask, SoundChanne
 use Rattle.rules.specs.Decides.{equals, at-most, fails, if-so}
 use Rattle.rules.specs.Tested.{no-task, no-semaphore, no-mutex, no-group, no-channel}
 use Rattle.why.specs.declared.Reason.{Reason}
-use Rattle.why.specs.Broken.{Broken, queueAt, slotAt, channelAt, messageAt, taskUsed, taskBase, taskWork, taskSuspend, taskQuantum, taskLeft, taskState, taskObject, taskMarked, taskDue, taskOutcome, taskMask, taskTest, taskConsume, taskMessage, taskFree, taskPlainMark, taskDelayMark, taskLeftMost, taskAsks, taskTurn, semaphoreUsed, semaphoreCounts, semaphoreFree, mutexUsed, mutexHolder, mutexNesting, mutexFree, mutexUnheld, mutexHeld, groupUsed, groupFlags, groupFree, channelUsed, channelCapacity, channelHeld, channelFree, channelRoom, messageRange, messageUnused, waitUsed, waitNothing, waitApart, holderUsed, queuePlaces, queueNothingElse, queueOrdered, taskWorked, taskNotDue, tickRange, depthRange, runningRange, runningFirst, runningAble, defaultLeast, defaultMost}
+use Rattle.why.specs.Broken.{Broken, queueAt, slotAt, channelAt, messageAt, taskUsed, taskBase, taskWork, taskSuspend, taskQuantum, taskLeft, taskState, taskObject, taskMarked, taskDue, taskOutcome, taskMask, taskTest, taskConsume, taskMessage, taskFree, taskPlainMark, taskDelayMark, taskLeftMost, taskAsks, taskTurn, semaphoreUsed, semaphoreCounts, semaphoreFree, mutexUsed, mutexHolder, mutexNesting, mutexFree, mutexUnheld, mutexHeld, groupUsed, groupFlags, groupFree, channelUsed, channelCapacity, channelHeld, channelFree, channelRoom, messageRange, messageUnused, waitUsed, waitNothing, waitApart, holderUsed, queuePlaces, queueNothingElse, queueOrdered, taskWorked, taskNotDue, tickRange, depthRange, runningRange, runningFirst, runningAble, defaultLeast, defaultMost, readyWord, readyLevels}
 use Rattle.why.specs.Tests.{whyOf, reason, ruleEnd, keptIn, isKept}
 use Rattle.why.specs.Slots.{all-slots, slot-of, ordered-slots, slots-ordered, stand-decides, each-slot}
+use Rattle.why.specs.Ready.{level-decides}
 use Rattle.why.specs.Decided.{unrefuted, used-decides, nothing-decides, apart-decides, holder-decides, work-decides, placed-decides, run-decides, broken-fails, fails-broken}
 use Rattle.why.specs.Least.{FirstBroken, FoundFrom, found}
 use Rattle.why.specs.Theorem.{Explains, SoundExactly, WhyExactly}
@@ -84,6 +85,8 @@ sound-keeps {t} s (runningFirst n) = n (s .runs .first)
 sound-keeps {t} s (runningAble n) = n (s .runs .able)
 sound-keeps {t} s (defaultLeast n) = n (s .settled .numbers .defaultLeast)
 sound-keeps {t} s (defaultMost n) = n (s .settled .numbers .defaultMost)
+sound-keeps {t} s (readyWord n) = n (s .settled .queued .ready .word)
+sound-keeps {t} s (readyLevels {l} h n) = n (s .settled .queued .ready .levels l h)
 
 -- ---- a table that breaks none is sound
 
@@ -183,6 +186,10 @@ module _ {t : Table} (w : Shaped t) (keeps : (c i : ℕ) → Broken t c i → �
         places = each-slot queueCount (λ q i. count (written i) (queueOf t q) ≡ once (eqb (placeOf (taskOf t i)) q)) (λ n h. unrefuted (placed-decides t (queueAt n) (slotAt n)) (λ k. keeps _ n (queuePlaces h k)));
         nothingElse = λ q l. all-slots (queueOf t q) (λ j b. stands q l j (omega (arith, w .slots q l)));
         ordered = λ q l. ordered-slots (works t) (queueOf t q) (λ j b. before-next q l j (omega (arith, w .slots q l)));
+        ready = record {
+          word = unrefuted at-most (λ n. keeps _ 0 (readyWord n));
+          levels = λ l h. unrefuted (level-decides t l) (λ n. keeps _ l (readyLevels h n));
+        };
       }
 
   keeps-sound : Sound t

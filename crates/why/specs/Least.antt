@@ -7,7 +7,7 @@ use native.Mathlib.Decide.{ℕ-discrete}
 use native.Mathlib.Omega.{arith}
 use lib.Dec.{ltb, leb}
 use borrow.Author.Tests.{ltb-true, ltb-false, lt-ltb, le-ltb}
-use Rattle.rules.specs.Sizes.{taskCount}
+use Rattle.rules.specs.Sizes.{taskCount, levelCount}
 use Rattle.rules.specs.Table.{Table}
 use Rattle.why.specs.declared.Reason.{Reason}
 use Rattle.why.specs.Broken.{recordCount, messageCount}
@@ -42,12 +42,13 @@ module _ (c : ℕ) (t : Table) where
 
 pub end-most : (c : ℕ) → recordEnd c ≤ recordCount
 unfolding recordEnd
-end-most c = go (leb 0x90 c && ltb c 0xA0) (leb 0x55 c && ltb c 0x60)
+end-most c = go (leb 0x90 c && ltb c 0xA0) (leb 0x55 c && ltb c 0x60) (leb 0xB8 c)
   where
-    go : (a b : Bool) → cond a recordCount (cond b messageCount taskCount) ≤ recordCount
-    go true b = omega arith
-    go false true = omega arith
-    go false false = omega arith
+    go : (a b d : Bool) → cond a recordCount (cond b messageCount (cond d levelCount taskCount)) ≤ recordCount
+    go true b d = omega arith
+    go false true d = omega arith
+    go false false true = omega arith
+    go false false false = omega arith
 
 -- The rules, from the first on.
 module _ (t : Table) where

@@ -6,5 +6,6 @@ pub mod TestLaws
 pub mod Least
 pub mod Awaited
 pub mod Slots
+pub mod Ready
 pub mod Decided
 pub mod Explained

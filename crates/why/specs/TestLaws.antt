@@ -8,7 +8,7 @@ use native.Mathlib.Omega.{arith}
 use lib.Dec.{eqb, ltb, leb}
 use borrow.Author.Tests.{ne-eqb, le-ltb, ltb-true, leb-true}
 use Rattle.rules.specs.Table.{Table}
-use Rattle.why.specs.Tests.{Test, rangeTests, taskTests, objectTests, groupTests, channelTests, messageTests, waitTests, holderTests, queueTests, workTests, singleTests, keptIn, isKept}
+use Rattle.why.specs.Tests.{Test, rangeTests, taskTests, objectTests, groupTests, channelTests, messageTests, waitTests, holderTests, queueTests, workTests, singleTests, levelTests, keptIn, isKept}
 
 -- So it is of each test of the list.
 pub data Every (P : Test → Type 0) : List Test → Type 0 where
@@ -66,8 +66,11 @@ all-above a l h = all-other (λ d e z. omega (arith, h, leb-true a d e, z)) l
 
 -- ---- which part of the list tells
 
+abbrev fromSingles : List Test
+fromSingles = singleTests ++ levelTests
+
 abbrev fromWorks : List Test
-fromWorks = workTests ++ singleTests
+fromWorks = workTests ++ fromSingles
 
 abbrev fromQueues : List Test
 fromQueues = queueTests ++ fromWorks
@@ -134,6 +137,10 @@ module _ (c i : ℕ) (t : Table) where
   unfolding areAll
   past-queues o = past-holders (omega arith) ∙ kept-behind c i t queueTests fromWorks (all-below 0xA0 _ o refl)
 
+  past-works : 0xB0 ≤ c → isKept c i t ≡ keptIn fromSingles c i t
+  unfolding areAll
+  past-works o = past-queues (omega arith) ∙ kept-behind c i t workTests fromSingles (all-below 0xB0 _ o refl)
+
   pub kept-task : 0x10 ≤ c → c < 0x20 → isKept c i t ≡ keptIn taskTests c i t
   unfolding areAll
   kept-task o p = past-range o ∙ kept-before c i t taskTests fromObjects (all-above 0x20 _ p refl)
@@ -168,8 +175,12 @@ module _ (c i : ℕ) (t : Table) where
 
   pub kept-work : 0xA0 ≤ c → c < 0xB0 → isKept c i t ≡ keptIn workTests c i t
   unfolding areAll
-  kept-work o p = past-queues o ∙ kept-before c i t workTests singleTests (all-above 0xB0 _ p refl)
+  kept-work o p = past-queues o ∙ kept-before c i t workTests fromSingles (all-above 0xB0 _ p refl)
 
-  pub kept-single : 0xB0 ≤ c → isKept c i t ≡ keptIn singleTests c i t
+  pub kept-single : 0xB0 ≤ c → c < 0xB8 → isKept c i t ≡ keptIn singleTests c i t
   unfolding areAll
-  kept-single o = past-queues (omega arith) ∙ kept-behind c i t workTests singleTests (all-below 0xB0 _ o refl)
+  kept-single o p = past-works o ∙ kept-before c i t singleTests levelTests (all-above 0xB8 _ p refl)
+
+  pub kept-level : 0xB8 ≤ c → isKept c i t ≡ keptIn levelTests c i t
+  unfolding areAll
+  kept-level o = past-works (omega arith) ∙ kept-behind c i t singleTests levelTests (all-below 0xB8 _ o refl)

@@ -1,12 +1,13 @@
 -- The rules of `Broken` as tests that compute, and the first that fails.
-use mathlib.Core.Bool.{Bool, true, cond, not, _&&_, _||_}
+use mathlib.Core.Bool.{Bool, true, false, cond, not, _&&_, _||_, Bool·beq}
 use mathlib.Core.List.{List, [], _∷_, _++_}
 use Prim.Native.Nat.{ℕ, zero, suc, _+_, _-_}
 use lib.Dec.{eqb, ltb, leb}
 use Rattle.queue.specs.Slots.{keyOf}
 use Rattle.queue.specs.Order.{count}
-use Rattle.rules.specs.Sizes.{taskCount, semaphoreCount, mutexCount, groupCount, channelCount, mostMessages, greatestMessage, lastPriority, mostNested, mostQuantum, mostCount, ticksRound, flagSets, testCount, plain, delayed, waitsFlags, objectDeleted}
+use Rattle.rules.specs.Sizes.{taskCount, semaphoreCount, mutexCount, groupCount, channelCount, mostMessages, greatestMessage, lastPriority, levelCount, wordsRound, mostNested, mostQuantum, mostCount, ticksRound, flagSets, testCount, plain, delayed, waitsFlags, objectDeleted}
 use Rattle.rules.specs.Table.{Table, taskOf, semaphoreOf, mutexOf, groupOf, channelOf, queueOf, ableQueue, firstIn, slotIn, works, isAble, written}
+use Rattle.rules.specs.Ready.{isSet}
 use Rattle.rules.specs.Move.{freshIn}
 use Rattle.rules.specs.Family.{Family, families, lastState, objectsIn, placeOf}
 use Rattle.rules.specs.Sound.{implies, once, eachOf, marksIn, asksIn, isNoTask, isNoSemaphore, isNoMutex, isNoGroup, isNoChannel}
@@ -171,10 +172,22 @@ singleTests =
     ∷ single 0xB4 (λ t. implies (not (eqb (t .depth) 0)) (mayRun t (t .running)))
     ∷ single 0xB5 (λ t. leb 1 (t .defaultQuantum))
     ∷ single 0xB6 (λ t. leb (t .defaultQuantum) mostQuantum)
+    ∷ single 0xB7 (λ t. ltb (t .ready) wordsRound)
     ∷ []
 
+-- One of the first n tasks is able and has level l; the level's bit says whether one of all is.
+unfoldable pub hasAble : (n l : ℕ) → Table → Bool
+hasAble zero l t = false
+hasAble (suc n) l t = let before = hasAble n l t in before || (isAble (taskOf t n) && eqb (taskOf t n .work) l)
+
+unfoldable pub isLevelRight : Table → ℕ → Bool
+isLevelRight t l = Bool·beq (isSet l (t .ready)) (hasAble taskCount l t)
+
+abbrev pub levelTests : List Test
+levelTests = record { rule = 0xB8; count = levelCount; keeps = isLevelRight } ∷ []
+
 abbrev pub tests : List Test
-tests = rangeTests ++ (taskTests ++ (objectTests ++ (groupTests ++ (channelTests ++ (messageTests ++ (waitTests ++ (holderTests ++ (queueTests ++ (workTests ++ singleTests)))))))))
+tests = rangeTests ++ (taskTests ++ (objectTests ++ (groupTests ++ (channelTests ++ (messageTests ++ (waitTests ++ (holderTests ++ (queueTests ++ (workTests ++ (singleTests ++ levelTests))))))))))
 
 -- ---- whether a rule is kept
 
@@ -193,7 +206,7 @@ abbrev pub ruleEnd : ℕ
 ruleEnd = 0xC0
 
 unfoldable pub recordEnd : ℕ → ℕ
-recordEnd c = cond (leb 0x90 c && ltb c 0xA0) recordCount (cond (leb 0x55 c && ltb c 0x60) messageCount taskCount)
+recordEnd c = cond (leb 0x90 c && ltb c 0xA0) recordCount (cond (leb 0x55 c && ltb c 0x60) messageCount (cond (leb 0xB8 c) levelCount taskCount))
 
 -- The least of the n numbers from i on that fails; i + n where none does.
 unfoldable pub least : (n i : ℕ) → (ℕ → Bool) → ℕ

@@ -4,6 +4,7 @@ ghost use Rattle.table.specs.Image.{Image, view};
 ghost use Rattle.why.specs.Tests.{isKept, recordEnd, firstAt, whyOf};
 
 mod channels;
+mod levels;
 mod objects;
 mod queues;
 mod singles;
@@ -55,7 +56,10 @@ fn is_kept(s: &[u8], rule: u32, i: usize) -> bool
     if rule < 0xB0 {
         return works::is_right(s, rule, i);
     }
-    singles::is_right(s, rule, i)
+    if rule < 0xB8 {
+        return singles::is_right(s, rule, i);
+    }
+    levels::is_right(s, rule, i)
 }
 
 // The records of the rule have numbers below it.
@@ -67,6 +71,9 @@ fn record_end(rule: u32) -> usize
     }
     if (0x55 <= rule) & (rule < 0x60) {
         return channels::MESSAGES;
+    }
+    if 0xB8 <= rule {
+        return levels::RECORDS;
     }
     32
 }

@@ -37,6 +37,7 @@ pub fn is_right(s: &[u8], rule: u32, i: usize) -> bool
         0xB4 => (depth == 0) | may_run(s, v),
         0xB5 => 1 <= numbers::get_default(s),
         0xB6 => (numbers::get_default(s) as u32) <= 65535,
+        0xB7 => numbers::get_ready(s) <= 18446744073709551615,
         _ => true,
     }
 }

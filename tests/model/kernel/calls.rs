@@ -26,9 +26,12 @@ impl Kernel {
         let mut further = 0;
         let answer = match self.serve(call, &mut further) {
             Ok(done) => {
-                // "Last, at depth 0, the first able task runs."
+                self.ready = self.ready_levels();
+                // "Last, at depth 0, the first able task runs." "the first level is found by counting the word's
+                // leading zeros": where none is able there are 64, which is no task's level.
                 if self.depth == 0 {
-                    self.running = self.able.first().copied();
+                    let level = self.ready.leading_zeros();
+                    self.running = self.able.iter().copied().find(|&t| u32::from(self.tasks[t].working) == level);
                 }
                 done
             }

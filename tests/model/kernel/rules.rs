@@ -2,7 +2,7 @@
 use super::{Channel, Kernel, Place, State, Task, Wanted, LAST_PRIORITY, MOST, MOST_MESSAGES, TASKS};
 
 /// The names of the standing rules, in the paper's order; the first is of the image alone.
-pub const RULES: [&str; 21] = [
+pub const RULES: [&str; 22] = [
     "the image shows a table",
     "fields in range",
     "free: zero fields",
@@ -24,6 +24,7 @@ pub const RULES: [&str; 21] = [
     "left at most the quantum",
     "in use: quantum above 0",
     "the running task",
+    "a bit for each level with an able task",
 ];
 
 impl Kernel {
@@ -56,6 +57,8 @@ impl Kernel {
             self.tasks.iter().all(|task| task.left <= task.quantum),
             self.all_have_a_quantum(),
             self.runs_rightly(),
+            // "a level's bit is set exactly if that level has an able task [..]. This is a new standing rule."
+            self.ready == self.ready_levels(),
         ];
         (0..RULES.len()).filter(|&rule| !holds[rule]).collect()
     }

@@ -51,7 +51,7 @@ module _ {t : Table} (s : SoundWithin t) where
       → (x .holder ≢ 0 → taskOf t (x .holder - 1) .used ≡ 1)
       → Stores t (withMutex m x t)
   mutex-stores m x right waited uses =
-      record { tasks = refl; queues = refl; shaped = mutex-shaped (s .queued .shaped) m x; frames = refl; objects = mutex-objects m x (s .objects) right waited uses }
+      record { tasks = refl; queues = refl; word = refl; shaped = mutex-shaped (s .queued .shaped) m x; frames = refl; objects = mutex-objects m x (s .objects) right waited uses }
 
   -- One for which nobody waits.
   pub mutex-unwaited : (m : ℕ) (x : Mutex) → m < mutexCount → SoundMutex x → (x .holder ≢ 0 → taskOf t (x .holder - 1) .used ≡ 1) → Empty (mutexQueue m) t
@@ -66,6 +66,7 @@ module _ {t : Table} (s : SoundWithin t) where
     record {
       tasks = refl;
       queues = refl;
+      word = refl;
       shaped = semaphore-shaped (s .queued .shaped) o x;
       frames = refl;
       objects = semaphore-objects o x (s .objects) right (λ j k e y. absurd (unwaited among-semaphores (s .queued) o l z j k e y));
@@ -77,7 +78,7 @@ module _ {t : Table} (s : SoundWithin t) where
   pub group-stores : (g : ℕ) (x : Group) → SoundGroup x → ((j : ℕ) → j < taskCount → taskOf t j .state ≡ waitsFlags → taskOf t j .object ≡ g → x .used ≡ 1)
       → Stores t (withGroup g x t) × Alike t (withGroup g x t)
   group-stores g x right waited = (
-    record { tasks = refl; queues = refl; shaped = group-shaped (s .queued .shaped) g x; frames = refl; objects = group-objects g x (s .objects) right waited },
+    record { tasks = refl; queues = refl; word = refl; shaped = group-shaped (s .queued .shaped) g x; frames = refl; objects = group-objects g x (s .objects) right waited },
     no-chain-moves refl refl,
   )
 
@@ -93,6 +94,7 @@ module _ {t : Table} (s : SoundWithin t) where
       record {
         tasks = refl;
         queues = refl;
+        word = refl;
         shaped = row-shaped (channel-shaped (s .queued .shaped) c x) c row e;
         frames = refl;
         objects = channel-objects (s .queued .shaped) c x row l (s .objects) right waited;

@@ -47,7 +47,7 @@ framed-settled {t} s f numbers =
     let u = framed f t in
     let o = s .objects in
     record {
-      queued = same-queued (s .queued) refl refl (framed-shaped (s .queued .shaped) f);
+      queued = same-queued (s .queued) refl refl refl (framed-shaped (s .queued .shaped) f);
       worked = s .worked;
       tasks = s .tasks;
       objects =
@@ -184,11 +184,12 @@ module _ {n : ℕ} {t : Table} {i : ℕ} (h : Midway n t) (w : Waiter t i) (outc
       let q = h .settled .queued in
       one-keeps h may-end (ended-becomes (w .task) q outcome) (ended-rest outcome i t) (put-queued i _ (walk-queued _ (put-queued i _ q))) (ended-worked (h .settled) (w .task) outcome)
 
--- ---- an object stored: no task, no queue and no wait changes
+-- ---- an object stored: no task, no queue, no level and no wait changes
 
 pub record Stores (t u : Table) : Type 0 where
   pub tasks : u .tasks ≡ t .tasks
   pub queues : u .queues ≡ t .queues
+  pub word : u .ready ≡ t .ready
   pub shaped : Shaped u
   pub frames : frame u ≡ frame t
   pub objects : SoundObjects u
@@ -199,7 +200,7 @@ module _ {n : ℕ} {t u : Table} (h : Midway n t) (x : Stores t u) where
   stores-walk-keeps w worked =
       let s = h .settled in
       becomes-keeps h (may-go-on h {i = 0} (omega arith) (taskOf t 0) (s .tasks 0 (omega arith)) refl (λ d e a. a)) (then-walk (as-is 0 t u (x .tasks) (x .frames)) w)
-      (walk-queued w (same-queued (s .queued) (x .tasks) (x .queues) (x .shaped)))
+      (walk-queued w (same-queued (s .queued) (x .tasks) (x .queues) (x .word) (x .shaped)))
       worked
       (become-objects (then-walk (as-is 0 u u refl refl) w) (walk-rest w u) (x .objects) (x .objects .waits 0 (omega arith)) (holder-used (x .objects) 0))
 

@@ -12,9 +12,10 @@ use Rattle.rules.specs.Decides.{equals}
 use Rattle.rules.specs.Move.{chosen}
 use Rattle.rules.specs.Time.{callerOf}
 use Rattle.rules.specs.declared.Task.{Task}
-use Rattle.rules.specs.Sound.{SoundQueues, SoundRuns}
+use Rattle.rules.specs.Sound.{SoundTasks, SoundQueues, SoundRuns}
 use Rattle.laws.specs.queues.Fields.{bare-able}
 use Rattle.laws.specs.queues.Put.{whichever, pick}
+use Rattle.laws.specs.queues.Ready.{first-chosen}
 use Rattle.laws.specs.keeps.Becomes.{Becomes, becomes-each, caller}
 use Rattle.laws.specs.queues.Stands.{Able, able, able-there, first-range, first-there}
 
@@ -28,21 +29,22 @@ pub record MayRunOn (t : Table) : Type 0 where
 pub may-run-on : {t : Table} → SoundRuns t → MayRunOn t
 may-run-on r = record { range = r .range; able = λ d n. ⊎-elim (λ z. absurd (n z)) (λ a. a) (r .able d) }
 
-pub chosen-runs : {t : Table} → SoundQueues t → MayRunOn t → SoundRuns (chosen t)
+pub chosen-runs : {t : Table} → SoundQueues t → SoundTasks t → MayRunOn t → SoundRuns (chosen t)
 unfolding chosen
-chosen-runs {t} q r =
+chosen-runs {t} q tasks r =
+    let first = first-chosen q (λ j l. omega (arith, tasks j l .inRange .work)) in
     pick SoundRuns equals
-    (λ e. record { range = first-range q ableQueue (omega arith); first = λ z. refl; able = λ d. absurd (d e) })
+    (λ e. record { range = omega (arith, first, first-range q ableQueue (omega arith)); first = λ z. first; able = λ d. absurd (d e) })
     (λ d. record { range = r .range; first = λ z. absurd (d z); able = λ e. someone e (ℕ-discrete (t .running) 0) })
   where
     someone : t .depth ≢ 0 → Dec (t .running ≡ 0) → (t .running ≡ 0) ⊎ (isAble (caller t) ≡ true)
     someone d (yes z) = inl z
     someone d (no n) = inr (r .able d n)
 
--- What holds where none is chosen, and where the first able task is.
-pub chosen-one : (P : Table → Type 0) (t : Table) → P t → P (withRunning (firstIn ableQueue t) t) → P (chosen t)
+-- What holds where none is chosen, and whoever is.
+pub chosen-one : (P : Table → Type 0) (t : Table) → P t → ((n : ℕ) → P (withRunning n t)) → P (chosen t)
 unfolding chosen
-chosen-one P t same new = whichever P (eqb (t .depth) 0) new same
+chosen-one P t same new = whichever P (eqb (t .depth) 0) (new _) same
 
 -- Between calls the running task is able at any depth.
 pub caller-able : {t : Table} → SoundQueues t → SoundRuns t → t .running ≢ 0 → isAble (caller t) ≡ true

@@ -9,7 +9,8 @@ use Rattle.rules.specs.Chain.{leads, smallest, fresh}
 use Rattle.rules.specs.Table.{Table, freshTable, ableQueue, firstIn, isAble, works, withRunning, holderOf}
 use Rattle.rules.specs.Decides.{itself}
 use Rattle.rules.specs.Move.{next, freshIn, chosen}
-use Rattle.rules.specs.Sound.{Sound, each, isShaped, marksIn, isTaskInRange, isNoTask, isNoSemaphore, isNoMutex, isNoGroup, isNoChannel, asksIn, isSoundTask, isSoundSemaphore, isSoundMutex, isSoundGroup, isSoundChannel, mayWait, isSoundWait, eachOf, isSoundObjects, isSoundQueues, isWorkedOut, isSoundNumbers, isSoundWithin, isSoundRuns, isSound, SoundWithin, NotDue}
+use Rattle.rules.specs.Ready.{levelsBelow}
+use Rattle.rules.specs.Sound.{Sound, each, isShaped, marksIn, isTaskInRange, isNoTask, isNoSemaphore, isNoMutex, isNoGroup, isNoChannel, asksIn, isSoundTask, isSoundSemaphore, isSoundMutex, isSoundGroup, isSoundChannel, mayWait, isSoundWait, eachOf, isSoundObjects, isSoundReady, isSoundQueues, isWorkedOut, isSoundNumbers, isSoundWithin, isSoundRuns, isSound, SoundWithin, NotDue}
 use Rattle.rules.specs.Family.{ofState, placeOf}
 use Rattle.rules.specs.Tested.{sound-tested, tested-sound}
 use Rattle.rules.specs.Step.{answer, effect, Bounded, serve, step}
@@ -27,9 +28,9 @@ pub chosen-sound : {t : Table} → BeforeChoice t → Sound (chosen t)
 chosen-sound {t} u =
     let h = u .settled in
     record {
-      settled = chosen-one SoundWithin t h (framed-settled h (withRunning (firstIn ableQueue t) t) (omega (arith, h .numbers)));
-      notDue = chosen-one NotDue t (u .notDue) (u .notDue);
-      runs = chosen-runs (h .queued) (u .runs);
+      settled = chosen-one SoundWithin t h (λ n. framed-settled h (withRunning n t) (omega (arith, h .numbers)));
+      notDue = chosen-one NotDue t (u .notDue) (λ n. u .notDue);
+      runs = chosen-runs (h .queued) (h .tasks) (u .runs);
     }
 
 -- ---- a call
@@ -58,5 +59,5 @@ serve-not-15 c interrupt t = accepts c interrupt t .served
 
 -- The fresh table is sound.
 pub fresh-sound : Sound freshTable
-unfolding count mayPrecede fits isOrdered leads smallest fresh freshTable isAble placeOf works holderOf next freshIn each isShaped ofState marksIn isTaskInRange isNoTask isNoSemaphore isNoMutex isNoGroup isNoChannel asksIn isSoundTask isSoundSemaphore isSoundMutex isSoundGroup isSoundChannel mayWait eachOf isSoundWait isSoundObjects isSoundQueues isWorkedOut isSoundNumbers isSoundWithin isSoundRuns isSound
+unfolding count mayPrecede fits isOrdered leads smallest fresh freshTable isAble placeOf works holderOf next freshIn each isShaped ofState marksIn isTaskInRange isNoTask isNoSemaphore isNoMutex isNoGroup isNoChannel asksIn isSoundTask isSoundSemaphore isSoundMutex isSoundGroup isSoundChannel mayWait eachOf isSoundWait isSoundObjects levelsBelow isSoundReady isSoundQueues isWorkedOut isSoundNumbers isSoundWithin isSoundRuns isSound
 fresh-sound = tested-sound freshTable refl

@@ -52,8 +52,8 @@ same-present h c = rw (h .channels, h .rows)
 pub no-mail : {t : Table} → SameMail t t
 no-mail = record { channels = refl; rows = refl; records = λ j. refl }
 
-pub only-others : {t : Table} {ss : List Semaphore} {ms : List Mutex} {gs : List Group} {qs : List (List ℕ)} {n q d r : ℕ}
-    → SameMail t (record { tasks = t .tasks; semaphores = ss; mutexes = ms; groups = gs; channels = t .channels; queues = qs; tick = n; defaultQuantum = q; depth = d; running = r; messages = t .messages })
+pub only-others : {t : Table} {ss : List Semaphore} {ms : List Mutex} {gs : List Group} {qs : List (List ℕ)} {n q d r w : ℕ}
+    → SameMail t (record { tasks = t .tasks; semaphores = ss; mutexes = ms; groups = gs; channels = t .channels; queues = qs; tick = n; defaultQuantum = q; depth = d; running = r; ready = w; messages = t .messages })
 only-others = record { channels = refl; rows = refl; records = λ j. refl }
 
 -- One change after another.
@@ -84,7 +84,7 @@ walk-mail w t =
     }
 
 pub chosen-mail : (t : Table) → SameMail t (chosen t)
-chosen-mail t = chosen-one (SameMail t) t no-mail only-others
+chosen-mail t = chosen-one (SameMail t) t no-mail (λ n. only-others)
 
 -- ---- waits that end
 

@@ -195,7 +195,7 @@ module _ {q a b : ℕ} (m : q < queueCount) (two : Two a b) where
     unfolding semaphore.wait
     semaphoreWait-kept n limit r =
         let x = withCount (semaphoreOf t n .count - 1) (semaphoreOf t n) in
-        whichever (KeepsOrder q a b t) (semaphores .offers t n) (taken-kept (same-queued queued refl refl (semaphore-shaped (queued .shaped) n x))) (waits-kept semaphores-lawful n limit nothingAsked r)
+        whichever (KeepsOrder q a b t) (semaphores .offers t n) (taken-kept (same-queued queued refl refl refl (semaphore-shaped (queued .shaped) n x))) (waits-kept semaphores-lawful n limit nothingAsked r)
 
     mutexWait-kept : (n limit : ℕ) → t .running ≢ 0 → KeepsOrder q a b t (mutex.wait n limit t)
     unfolding mutex.wait
@@ -210,7 +210,7 @@ module _ {q a b : ℕ} (m : q < queueCount) (two : Two a b) where
     unfolding group.wait
     groupWait-kept g limit asked r =
         let x = withFlags (turnedOver (consumed (flagsOf t g) asked) (flagsOf t g)) (groupOf t g) in
-        whichever (KeepsOrder q a b t) (isMet (flagsOf t g) asked) (taken-kept (same-queued queued refl refl (group-shaped (queued .shaped) g x))) (waits-kept groups-lawful g limit asked r)
+        whichever (KeepsOrder q a b t) (isMet (flagsOf t g) asked) (taken-kept (same-queued queued refl refl refl (group-shaped (queued .shaped) g x))) (waits-kept groups-lawful g limit asked r)
 
     groupPost-kept : (g mask on : ℕ) → g < groupCount → KeepsOrder q a b t (group.post g mask on t)
     unfolding group.post
@@ -221,7 +221,7 @@ module _ {q a b : ℕ} (m : q < queueCount) (two : Two a b) where
     -- What a channel has bears on no queue, and what a task is given neither on its place nor on its working priority.
     holding-queued : (c : ℕ) (l : List ℕ) → SoundQueues (holding c l t)
     unfolding holding
-    holding-queued c l = same-queued queued refl refl (holding-shaped (queued .shaped) c l)
+    holding-queued c l = same-queued queued refl refl refl (holding-shaped (queued .shaped) c l)
 
     delivered-moved : {u : Table} (i v : ℕ) → SoundQueues u → Moved Rises a b u (delivered i v u)
     unfolding delivered
@@ -299,7 +299,7 @@ serve-kept c interrupt {t} s q a b m la lb apart sa sb x y =
     -- The choice of the running task touches no queue.
     (λ e.
     let kept = change-kept m (record { first = la; second = lb; apart = apart }) s c interrupt e (accepts c interrupt t .holds e) x y in
-    chosen-one (KeepsOrder q a b t) (changeBy c t) kept kept)
+    chosen-one (KeepsOrder q a b t) (changeBy c t) kept (λ n. kept))
     (λ e. unmoved)
     (stayed-stays sa)
     (stayed-stays sb)

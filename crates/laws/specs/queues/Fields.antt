@@ -3,7 +3,7 @@ use mathlib.Core.Path.{_≡_, refl, sym, ap, _∙_}
 use mathlib.Core.List.{[]}
 use Prim.Native.Nat.{ℕ}
 use lib.ListN.{length, length-set}
-use Rattle.rules.specs.Table.{Table, taskOf, isAble, withWork, withTasks, withQueues, withTick, withDefaultQuantum, withDepth, withRunning}
+use Rattle.rules.specs.Table.{Table, taskOf, isAble, withWork, withTasks, withQueues, withTick, withDefaultQuantum, withDepth, withRunning, withReady}
 use Rattle.rules.specs.Family.{ofState, placeOf}
 use Rattle.rules.specs.Move.{put, rotate, walk, ended}
 use Rattle.rules.specs.declared.Task.{Task}
@@ -11,12 +11,12 @@ use Rattle.laws.specs.queues.Put.{put-any, rotate-any, part-put, walk-ke
 
 -- ---- parts of a table that moves leave alone
 
--- A table without its tasks and queues; without its objects too.
+-- A table without its tasks, queues and word; without its objects too.
 abbrev pub rest : Table → Table
-rest t = withTasks [] (withQueues [] t)
+rest t = withTasks [] (withQueues [] (withReady 0 t))
 
 abbrev pub frame : Table → Table
-frame t = record { tasks = []; semaphores = []; mutexes = []; groups = []; channels = []; queues = []; tick = t .tick; defaultQuantum = t .defaultQuantum; depth = t .depth; running = t .running; messages = [] }
+frame t = record { tasks = []; semaphores = []; mutexes = []; groups = []; channels = []; queues = []; tick = t .tick; defaultQuantum = t .defaultQuantum; depth = t .depth; running = t .running; ready = 0; messages = [] }
 
 -- The lists of t in the frame of f: where a call changes single numbers alone, it makes f of t, and `framed f t` is f.
 abbrev pub framed : (f t : Table) → Table
@@ -39,13 +39,13 @@ bare-place k = refl
 
 -- What a put leaves alone, and a walk too: objects, tick, depth, running task, and how many tasks there are.
 pub put-rest : (i : ℕ) (k : Task) (t : Table) → rest (put i k t) ≡ rest t
-put-rest i k t = put-any (λ u. rest u ≡ rest t) (λ q l u e h. h) i k t refl refl
+put-rest i k t = put-any (λ u. rest u ≡ rest t) (λ q l w u e h. h) i k t refl refl
 
 pub put-size : (i : ℕ) (k : Task) (t : Table) → length (put i k t .tasks) ≡ length (t .tasks)
-put-size i k t = put-any (λ u. length (u .tasks) ≡ length (t .tasks)) (λ q l u e h. h) i k t refl (length-set (t .tasks) i k)
+put-size i k t = put-any (λ u. length (u .tasks) ≡ length (t .tasks)) (λ q l w u e h. h) i k t refl (length-set (t .tasks) i k)
 
 pub rotate-rest : (i : ℕ) (t : Table) → rest (rotate i t) ≡ rest t
-rotate-rest i t = rotate-any (λ u. rest u ≡ rest t) (λ q l u e h. h) i t refl refl
+rotate-rest i t = rotate-any (λ u. rest u ≡ rest t) (λ q l w u e h. h) i t refl refl
 
 -- ---- the walk
 

@@ -15,7 +15,7 @@ use Rattle.queue.specs.Lengths.{length-behind, length-without, length-moved}
 use Rattle.rules.specs.Decides.{Decides}
 use Rattle.rules.specs.Afresh.{lt-or-le}
 use Rattle.rules.specs.Sizes.{taskCount}
-use Rattle.rules.specs.Table.{Table, taskOf, queueOf, queueCount, ableQueue, works, isAble, noTask, withTask, withQueue, withLeft}
+use Rattle.rules.specs.Table.{Table, taskOf, queueOf, queueCount, ableQueue, works, isAble, noTask, withTask, withQueue, withReady, withLeft}
 use Rattle.rules.specs.Family.{ofState, placeOf}
 use Rattle.rules.specs.Move.{leave, join, stays, put, rotate, putWork, walk, next, freshIn}
 use Rattle.rules.specs.Sound.{Shaped, SoundWithin}
@@ -81,7 +81,7 @@ part-set f l i x j d e = set-each (λ n y. f y ≡ f (getD l n d)) l i j x d e r
 
 -- Task i becomes k and moves.
 abbrev pub shifted : ℕ → Task → Table → Table
-shifted i k t = join (placeOf k) i (leave (placeOf (taskOf t i)) i (withTask i k t))
+shifted i k t = join (placeOf k) i (withTask i k (leave (placeOf (taskOf t i)) i t))
 
 -- A task with its whole quantum left.
 abbrev pub refilled : Task → Task
@@ -113,23 +113,30 @@ pub rotate-out : (i : ℕ) (t : Table) → taskCount ≤ i → rotate i t ≡ t
 unfolding rotate
 rotate-out i t l = rw (le-ltb i taskCount l)
 
--- ---- what no queue bears on
+-- ---- what neither a queue nor the word bears on
 
-module _ (P : Table → Type 0) (queue : (q : ℕ) (l : List ℕ) (t : Table) → length l ≡ length (queueOf t q) → P t → P (withQueue q l t)) where
+-- It holds after a queue and the word have changed.
+abbrev pub Aside : (Table → Type 0) → Type 0
+Aside P = (q : ℕ) (l : List ℕ) (w : ℕ) (t : Table) → length l ≡ length (queueOf t q) → P t → P (withReady w (withQueue q l t))
+
+module _ (P : Table → Type 0) (queue : Aside P) where
   pub leave-inv : (q i : ℕ) (t : Table) → P t → P (leave q i t)
   unfolding leave
-  leave-inv q i t h = whichever P (ltb q queueCount) (queue q _ t (length-without i (queueOf t q)) h) h
+  leave-inv q i t h = whichever P (ltb q queueCount) (queue q _ _ t (length-without i (queueOf t q)) h) h
 
   pub join-inv : (q i : ℕ) (t : Table) → P t → P (join q i t)
   unfolding join
-  join-inv q i t h = whichever P (ltb q queueCount) (queue q _ t (length-behind (works t) i (queueOf t q)) h) h
+  join-inv q i t h = whichever P (ltb q queueCount) (queue q _ _ t (length-behind (works t) i (queueOf t q)) h) h
 
+module _ (P : Table → Type 0) (queue : Aside P) where
   -- It holds after a put, where it holds when the task alone has changed.
   pub put-inv : (i : ℕ) (k : Task) (t : Table) → i < taskCount → P (withTask i k t) → P (put i k t)
-  put-inv i k t l h = rw (put-in i k t l) (whichever P (stays (taskOf t i) k) h (join-inv _ i _ (leave-inv _ i (withTask i k t) h)))
+  put-inv i k t l h =
+      rw (put-in i k t l)
+      (whichever P (stays (taskOf t i) k) h (join-inv P queue _ i _ (leave-inv (λ u. P (withTask i k u)) (λ q m w u e r. queue q m w (withTask i k u) e r) _ i t h)))
 
   pub rotate-inv : (i : ℕ) (t : Table) → i < taskCount → P (withTask i (refilled (taskOf t i)) t) → P (rotate i t)
-  rotate-inv i t l h = rw (rotate-in i t l) (queue ableQueue _ _ (length-moved (works t) i (queueOf t ableQueue)) h)
+  rotate-inv i t l h = rw (rotate-in i t l) (queue ableQueue _ _ _ (length-moved (works t) i (queueOf t ableQueue)) h)
 
   -- The same for any number, also one that is no task's, where it held before.
   pub put-any : (i : ℕ) (k : Task) (t : Table) → P t → P (withTask i k t) → P (put i k t)
@@ -145,8 +152,8 @@ pub record Stored (i : ℕ) (k : Task) (t u : Table) : Type 0 where
   pub tasks : u .tasks ≡ set (t .tasks) i k
   pub mutexes : u .mutexes ≡ t .mutexes
 
-stored-queue : {i : ℕ} {k : Task} {t : Table} (q : ℕ) (l : List ℕ) (u : Table) → length l ≡ length (queueOf u q) → Stored i k t u → Stored i k t (withQueue q l u)
-stored-queue q l u e h = record { tasks = h .tasks; mutexes = h .mutexes }
+stored-queue : {i : ℕ} {k : Task} {t : Table} → Aside (Stored i k t)
+stored-queue q l w u e h = record { tasks = h .tasks; mutexes = h .mutexes }
 
 pub put-stored : (i : ℕ) (k : Task) (t : Table) → i < taskCount → Stored i k t (put i k t)
 put-stored i k t l = put-inv (Stored i k t) stored-queue i k t l (record { tasks = refl; mutexes = refl })
@@ -160,7 +167,7 @@ task-put-same i k t l size = rw (put-stored i k t l .tasks) (getD-set-same (t .t
 
 -- What holds of the new record, and of each task before, holds of each after.
 pub put-each : (P : ℕ → Task → Type 0) (i : ℕ) (k : Task) (t : Table) (j : ℕ) → P i k → P j (taskOf t j) → P j (taskOf (put i k t) j)
-put-each P i k t j new old = put-any (λ u. P j (taskOf u j)) (λ q m u e h. h) i k t old (set-each P (t .tasks) i j k noTask new old)
+put-each P i k t j new old = put-any (λ u. P j (taskOf u j)) (λ q m w u e h. h) i k t old (set-each P (t .tasks) i j k noTask new old)
 
 pub task-put : (i : ℕ) (k : Task) (t : Table) (j : ℕ) → j ≢ i → taskOf (put i k t) j ≡ taskOf t j
 task-put i k t j d = put-each (λ n x. n ≢ i → x ≡ taskOf t n) i k t j (λ e. absurd (e refl)) (λ e. refl) d
@@ -171,7 +178,7 @@ part-put f i k t same j = put-each (λ n x. f x ≡ f (taskOf t n)) i k t j same
 
 -- A rotation leaves all of each task but what is left.
 pub part-rotate : {A : Type 0} (f : Task → A) → ((n : ℕ) (k : Task) → f (withLeft n k) ≡ f k) → (i : ℕ) (t : Table) (j : ℕ) → f (taskOf (rotate i t) j) ≡ f (taskOf t j)
-part-rotate f same i t j = rotate-any (λ u. f (taskOf u j) ≡ f (taskOf t j)) (λ q m u e h. h) i t refl (part-set f (t .tasks) i _ j noTask (same _ (taskOf t i)))
+part-rotate f same i t j = rotate-any (λ u. f (taskOf u j) ≡ f (taskOf t j)) (λ q m w u e h. h) i t refl (part-set f (t .tasks) i _ j noTask (same _ (taskOf t i)))
 
 -- Four numbers of a task say where it stands.
 pub place-same : (k m : Task) → m .used ≡ k .used → m .state ≡ k .state → m .suspend ≡ k .suspend → m .object ≡ k .object → placeOf m ≡ placeOf k
@@ -195,18 +202,18 @@ works-put i k t l = rw (put-stored i k t l .tasks) (map-set (λ k. k .work) (t .
 
 pub works-rotate : (i : ℕ) (t : Table) → works (rotate i t) ≡ works t
 unfolding works
-works-rotate i t = rotate-any (λ u. works u ≡ works t) (λ q m u e h. h) i t refl (map-set-same (λ k. k .work) (t .tasks) i _ noTask refl)
+works-rotate i t = rotate-any (λ u. works u ≡ works t) (λ q m w u e h. h) i t refl (map-set-same (λ k. k .work) (t .tasks) i _ noTask refl)
 
 -- ---- a queue that a put leaves alone
 
 -- A change of another queue, if there is one.
-pub queue-other : (b : Bool) (p q : ℕ) (l : List ℕ) (t : Table) → q ≢ p → queueOf (cond b (withQueue p l t) t) q ≡ queueOf t q
-queue-other b p q l t d = whichever (λ u. queueOf u q ≡ queueOf t q) b (getD-set-other (t .queues) p q l [] d) refl
+pub queue-other : (b : Bool) (p q : ℕ) (l : List ℕ) (w : ℕ) (t : Table) → q ≢ p → queueOf (cond b (withReady w (withQueue p l t)) t) q ≡ queueOf t q
+queue-other b p q l w t d = whichever (λ u. queueOf u q ≡ queueOf t q) b (getD-set-other (t .queues) p q l [] d) refl
 
 -- ---- shape
 
-pub queue-shaped : (q : ℕ) (l : List ℕ) (t : Table) → length l ≡ length (queueOf t q) → Shaped t → Shaped (withQueue q l t)
-queue-shaped q l t e s =
+pub queue-shaped : Aside Shaped
+queue-shaped q l w t e s =
     record {
       tasks = s .tasks;
       semaphores = s .semaphores;

@@ -19,16 +19,17 @@ use Rattle.queue.specs.Keeps.{all-opened, all-closed, Agree, without-ordered, o
 use Rattle.queue.specs.Stable.{without-absent}
 use Rattle.rules.specs.Afresh.{lt-or-le}
 use Rattle.rules.specs.Sizes.{taskCount}
-use Rattle.rules.specs.Table.{Table, taskOf, queueOf, queueCount, ableQueue, works, isAble, written, withTask, withMutex, withQueue, withLeft}
+use Rattle.rules.specs.Table.{Table, taskOf, queueOf, queueCount, ableQueue, works, isAble, written, withTask, withMutex, withQueue, withReady, withLeft}
 use Rattle.rules.specs.Family.{placeOf}
 use Rattle.rules.specs.Move.{leave, join, stays, put, rotate, walk}
-use Rattle.rules.specs.Sound.{Each, once, Shaped, SoundQueues}
+use Rattle.rules.specs.Sound.{Each, once, Shaped, SoundReady, SoundQueues}
 use Rattle.rules.specs.Tested.{once-most}
 use Rattle.rules.specs.declared.Task.{Task}
 use Rattle.rules.specs.declared.Mutex.{Mutex}
 use Rattle.laws.specs.queues.Stands.{able-place}
+use Rattle.laws.specs.queues.Ready.{same-ready, shifted-ready, resting-ready}
 use Rattle.laws.specs.queues.Shapes.{mutex-shaped}
-use Rattle.laws.specs.queues.Put.{shifted, put-out, put-moves, put-stays, rotate-in, leave-inv, queue-other, put-stored, task-put, task-put-same, part-put, part-rotate, place-same, work-at, works-put, works-rotate, queue-shaped, task-shaped, put-shaped, rotate-shaped, walk-inv}
+use Rattle.laws.specs.queues.Put.{shifted, put-out, put-moves, put-stays, rotate-in, able-left, leave-inv, queue-other, put-stored, task-put, task-put-same, part-put, part-rotate, place-same, work-at, works-put, works-rotate, queue-shaped, task-shaped, put-shaped, rotate-shaped, walk-inv}
 
 -- ---- one queue
 
@@ -107,33 +108,32 @@ standsIn t q j = eqb (placeOf (taskOf t j)) q
 pub queue-right : {t : Table} → SoundQueues t → (q : ℕ) → q < queueCount → QueueRight (works t) (standsIn t q) (queueOf t q)
 queue-right s q m = record { slots = s .shaped .slots q m; counted = s .places q m; inside = s .nothingElse q m; ordered = s .ordered q m }
 
-right-queued : {t : Table} → Shaped t → ((q : ℕ) → q < queueCount → QueueRight (works t) (standsIn t q) (queueOf t q)) → SoundQueues t
-right-queued s r = record { shaped = s; places = λ q m. r q m .counted; nothingElse = λ q m. r q m .inside; ordered = λ q m. r q m .ordered }
+right-queued : {t : Table} → Shaped t → ((q : ℕ) → q < queueCount → QueueRight (works t) (standsIn t q) (queueOf t q)) → SoundReady t → SoundQueues t
+right-queued s r w = record { shaped = s; places = λ q m. r q m .counted; nothingElse = λ q m. r q m .inside; ordered = λ q m. r q m .ordered; ready = w }
 
 -- ---- put
 
 -- A change of queue p, if there is one, and the queues after it.
-changed-queue : (f : List ℕ → List ℕ) (p q : ℕ) (t : Table) → q < queueCount → length (t .queues) ≡ queueCount
-    → queueOf (cond (ltb p queueCount) (withQueue p (f (queueOf t p)) t) t) q ≡ cond (eqb p q) (f (queueOf t q)) (queueOf t q)
-changed-queue f p q t m s = go (ℕ-discrete p q)
+changed-queue : (f : List ℕ → List ℕ) (p q w : ℕ) (t : Table) → q < queueCount → length (t .queues) ≡ queueCount
+    → queueOf (cond (ltb p queueCount) (withReady w (withQueue p (f (queueOf t p)) t)) t) q ≡ cond (eqb p q) (f (queueOf t q)) (queueOf t q)
+changed-queue f p q w t m s = go (ℕ-discrete p q)
   where
-    go : Dec (p ≡ q) → queueOf (cond (ltb p queueCount) (withQueue p (f (queueOf t p)) t) t) q ≡ cond (eqb p q) (f (queueOf t q)) (queueOf t q)
+    go : Dec (p ≡ q) → queueOf (cond (ltb p queueCount) (withReady w (withQueue p (f (queueOf t p)) t)) t) q ≡ cond (eqb p q) (f (queueOf t q)) (queueOf t q)
     go (yes e) = rw (lt-ltb p queueCount (omega arith), eq-eqb p q e) (rw e (getD-set-same (t .queues) q _ [] (omega arith)))
-    go (no d) = rw (ne-eqb p q d) (queue-other (ltb p queueCount) p q _ t (λ e. d (sym e)))
+    go (no d) = rw (ne-eqb p q d) (queue-other (ltb p queueCount) p q _ w t (λ e. d (sym e)))
 
 leave-queue : (p i q : ℕ) (t : Table) → q < queueCount → length (t .queues) ≡ queueCount → queueOf (leave p i t) q ≡ cond (eqb p q) (without i (queueOf t q)) (queueOf t q)
 unfolding leave
-leave-queue p i = changed-queue (without i) p
+leave-queue p i q t = changed-queue (without i) p q _ t
 
 join-queue : (p i q : ℕ) (t : Table) → q < queueCount → length (t .queues) ≡ queueCount
     → queueOf (join p i t) q ≡ cond (eqb p q) (behind (works t) i (queueOf t q)) (queueOf t q)
 unfolding join
-join-queue p i q t = changed-queue (behind (works t) i) p q t
+join-queue p i q t = changed-queue (behind (works t) i) p q _ t
 
 -- The one queue where task i may stand is without it.
-left-queue : {t : Table} (i : ℕ) (k : Task) (q : ℕ) → i < taskCount → q < queueCount → SoundQueues t
-    → queueOf (leave (placeOf (taskOf t i)) i (withTask i k t)) q ≡ without i (queueOf t q)
-left-queue {t} i k q l m s = leave-queue (placeOf (taskOf t i)) i q (withTask i k t) m (s .shaped .queues) ∙ go (standsIn t q i) refl
+left-queue : {t : Table} (i q : ℕ) → i < taskCount → q < queueCount → SoundQueues t → queueOf (leave (placeOf (taskOf t i)) i t) q ≡ without i (queueOf t q)
+left-queue {t} i q l m s = leave-queue (placeOf (taskOf t i)) i q t m (s .shaped .queues) ∙ go (standsIn t q i) refl
   where
     go : (b : Bool) → standsIn t q i ≡ b → cond b (without i (queueOf t q)) (queueOf t q) ≡ without i (queueOf t q)
     go true e = refl
@@ -144,11 +144,11 @@ shifted-queue : {t : Table} (i : ℕ) (k : Task) (q : ℕ) → i < taskCount →
     → queueOf (shifted i k t) q ≡ cond (eqb (placeOf k) q) (moved (works (withTask i k t)) i (queueOf t q)) (without i (queueOf t q))
 unfolding works
 shifted-queue {t} i k q l m s =
-    join-queue (placeOf k) i q left m (leave-inv Shaped queue-shaped _ i _ (task-shaped i k (s .shaped)) .queues)
-    ∙ rw (leave-inv (λ u. u .tasks ≡ set (t .tasks) i k) (λ p r u e h. h) _ i (withTask i k t) refl, left-queue i k q l m s)
+    join-queue (placeOf k) i q (withTask i k left) m (leave-inv Shaped queue-shaped _ i t (s .shaped) .queues)
+    ∙ rw (leave-inv (λ u. u .tasks ≡ t .tasks) (λ p r w u e h. h) (placeOf (taskOf t i)) i t refl, left-queue i q l m s)
   where
     left : Table
-    left = leave (placeOf (taskOf t i)) i (withTask i k t)
+    left = leave (placeOf (taskOf t i)) i t
 
 pub put-queue : {t : Table} (i : ℕ) (k : Task) (q : ℕ) → i < taskCount → q < queueCount → SoundQueues t → stays (taskOf t i) k ≡ false
     → queueOf (put i k t) q ≡ cond (eqb (placeOf k) q) (moved (works (put i k t)) i (queueOf t q)) (without i (queueOf t q))
@@ -162,7 +162,7 @@ others-agree i k t l x z d = rw (works-put i k t l) (getD-set-other (works t) i 
 -- Whatever a task becomes, it stands in the queue of its place.
 pub put-queued : {t : Table} (i : ℕ) (k : Task) → SoundQueues t → SoundQueues (put i k t)
 unfolding stays
-put-queued {t} i k s = ⊎-elim (λ l. right-queued (put-shaped i k (s .shaped)) (λ q m. right l q m)) (λ l. rw (put-out i k t l) s) (lt-or-le i taskCount)
+put-queued {t} i k s = ⊎-elim (λ l. right-queued (put-shaped i k (s .shaped)) (λ q m. right l q m) (word l)) (λ l. rw (put-out i k t l) s) (lt-or-le i taskCount)
   where
     moves : i < taskCount → (q : ℕ) → q < queueCount → stays (taskOf t i) k ≡ false → QueueRight (works (put i k t)) (standsIn (put i k t) q) (queueOf (put i k t) q)
     moves l q m e =
@@ -187,6 +187,14 @@ put-queued {t} i k s = ⊎-elim (λ l. right-queued (put-shaped i k (s .shaped))
         (λ j. ap (λ x. eqb x q) (part-put placeOf i k t (sym p) j))
         (queue-right s q m))
 
+    word : i < taskCount → SoundReady (put i k t)
+    word l = go (eqb (placeOf (taskOf t i)) (placeOf k)) refl (eqb (taskOf t i .work) (k .work)) refl
+      where
+        go : (a : Bool) → eqb (placeOf (taskOf t i)) (placeOf k) ≡ a → (b : Bool) → eqb (taskOf t i .work) (k .work) ≡ b → SoundReady (put i k t)
+        go true p true w = resting-ready s i l k (eqb-true _ _ p) (eqb-true _ _ w)
+        go true p false w = shifted-ready s i l k (put-moves i k t l (rw (p, w)))
+        go false p b w = shifted-ready s i l k (put-moves i k t l (rw p))
+
     right : i < taskCount → (q : ℕ) → q < queueCount → QueueRight (works (put i k t)) (standsIn (put i k t) q) (queueOf (put i k t) q)
     right l q m = go (eqb (placeOf (taskOf t i)) (placeOf k)) refl (eqb (taskOf t i .work) (k .work)) refl
       where
@@ -203,10 +211,18 @@ walk-queued s h = walk-inv SoundQueues (λ t i l r. put-queued i _ r) s h
 
 -- The able task i goes behind its equals.
 pub rotate-queued : {t : Table} (i : ℕ) → SoundQueues t → i < taskCount → isAble (taskOf t i) ≡ true → SoundQueues (rotate i t)
-rotate-queued {t} i s l able = right-queued (rotate-shaped i (s .shaped)) (λ q m. right q m (ℕ-discrete ableQueue q))
+rotate-queued {t} i s l able = right-queued (rotate-shaped i (s .shaped)) (λ q m. right q m (ℕ-discrete ableQueue q)) word
   where
     same : (q j : ℕ) → standsIn (rotate i t) q j ≡ standsIn t q j
     same q j = ap (λ x. eqb x q) (part-rotate placeOf (λ n k. place-same k (withLeft n k) refl refl refl refl) i t j)
+
+    word : SoundReady (rotate i t)
+    word =
+        same-ready
+        (part-rotate isAble able-left i t)
+        (part-rotate (λ k. k .work) (λ n k. refl) i t)
+        (ap (λ (u : Table). u .ready) (rotate-in i t l))
+        (s .ready)
 
     there : QueueRight (works (rotate i t)) (standsIn (rotate i t) ableQueue) (queueOf (rotate i t) ableQueue)
     there =
@@ -224,15 +240,16 @@ rotate-queued {t} i s l able = right-queued (rotate-shaped i (s .shaped)) (λ q 
 
 -- ---- all that leaves tasks and queues as they are
 
-pub same-queued : {t u : Table} → SoundQueues t → u .tasks ≡ t .tasks → u .queues ≡ t .queues → Shaped u → SoundQueues u
+pub same-queued : {t u : Table} → SoundQueues t → u .tasks ≡ t .tasks → u .queues ≡ t .queues → u .ready ≡ t .ready → Shaped u → SoundQueues u
 unfolding works
-same-queued {t} {u} s tasks queues shaped =
+same-queued {t} {u} s tasks queues word shaped =
     record {
       shaped = shaped;
       places = rw (tasks, queues) (s .places);
       nothingElse = rw queues (s .nothingElse);
       ordered = rw (tasks, queues) (s .ordered);
+      ready = same-ready (λ j. rw tasks) (λ j. rw tasks) word (s .ready);
     }
 
 pub mutex-queued : {t : Table} (m : ℕ) (x : Mutex) → SoundQueues t → SoundQueues (withMutex m x t)
-mutex-queued {t} m x h = same-queued h refl refl (mutex-shaped (h .shaped) m x)
+mutex-queued {t} m x h = same-queued h refl refl refl (mutex-shaped (h .shaped) m x)

@@ -20,7 +20,7 @@ use Rattle.table.specs.kinds.Semaphore as semaphore
 use Rattle.table.specs.kinds.Mutex as mutex
 use Rattle.table.specs.kinds.Group as group
 use Rattle.table.specs.kinds.Channel as channel
-use Rattle.table.specs.Image.{queueFirst, tickColumn, defaultColumn, depthColumn, runningColumn, messageFirst, layout, Image, view}
+use Rattle.table.specs.Image.{queueFirst, tickColumn, defaultColumn, depthColumn, runningColumn, readyColumn, messageFirst, layout, Image, view}
 
 -- Its columns have one count.
 pub even : alike semaphore.kind layout ≡ true
@@ -48,6 +48,7 @@ module _ (l m : List ℕ) (i j : ℕ) (vs : List ℕ) (h : Image l) where
         defaultQuantum = row-entry semaphore.kind layout even vs j i l (omega arith) q f defaultColumn 0 (inr (omega arith)) x;
         depth = row-entry semaphore.kind layout even vs j i l (omega arith) q f depthColumn 0 (inr (omega arith)) x;
         running = row-entry semaphore.kind layout even vs j i l (omega arith) q f runningColumn 0 (inr (omega arith)) x;
+        ready = row-entry semaphore.kind layout even vs j i l (omega arith) q f readyColumn 0 (inr (omega arith)) x;
         messages = row-run semaphore.kind layout even messageFirst channelCount (λ n p. inr (omega arith)) vs j i l (omega arith) q f x;
       }
 

@@ -1,6 +1,6 @@
 use mathlib.Core.Path.{sym, _∙_}
 use Rattle.table.specs.Image.{view}
-use Rattle.why.specs.TestLaws.{kept-range, kept-task, kept-object, kept-group, kept-channel, kept-message, kept-wait, kept-holder, kept-queue, kept-work, kept-single}
+use Rattle.why.specs.TestLaws.{kept-range, kept-task, kept-object, kept-group, kept-channel, kept-message, kept-wait, kept-holder, kept-queue, kept-work, kept-single, kept-level}
 use borrow.Author.Needs.{needs}
 use Rattle.why.proofs.is_kept.Statement.{statement}
 use Rattle.why.proofs.is_kept.Tie as tie
@@ -36,7 +36,10 @@ returns-10 : tie.Need-returns-10
 returns-10 c = let a = c .before .before .before .before .before .before .before .before .before .before .before .before .args in c .is-right6 .ensures ∙ sym (kept-work (a .rule) (a .i) (view (a .s .now)) (c .before .before .if9 .left) (c .before .if10 .taken))
 
 returns-11 : tie.Need-returns-11
-returns-11 c = let a = c .before .before .before .before .before .before .before .before .before .before .before .before .args in c .is-right7 .ensures ∙ sym (kept-single (a .rule) (a .i) (view (a .s .now)) (c .before .if10 .left))
+returns-11 c = let a = c .before .before .before .before .before .before .before .before .before .before .before .before .before .args in c .is-right7 .ensures ∙ sym (kept-single (a .rule) (a .i) (view (a .s .now)) (c .before .before .if10 .left) (c .before .if11 .taken))
+
+returns-12 : tie.Need-returns-12
+returns-12 c = let a = c .before .before .before .before .before .before .before .before .before .before .before .before .before .args in c .is-right8 .ensures ∙ sym (kept-level (a .rule) (a .i) (view (a .s .now)) (c .before .if11 .left))
 
 pub is-kept-spec : {M : Type 1} → statement M
 is-kept-spec =
@@ -63,4 +66,6 @@ is-kept-spec =
     (λ c κs. search needs)
     returns-10
     (λ c κs. search needs)
-    returns-11)
+    returns-11
+    (λ c κs. search needs)
+    returns-12)

@@ -26,7 +26,11 @@ unfolding shownIn
 returns-5 c = rw (c .before .match .keys4, lt-ltb _ 1 (c .before .before .if1 .left)) (c .get-default .ensures)
 
 returns-6 : tie.Need-returns-6
-returns-6 c = let a = c .before .before .before .args in sym (shown-lacking (a .field) (a .number) _ (search (needs, end, with) depth 40))
+unfolding shownIn
+returns-6 c = rw (c .before .match .keys5, lt-ltb _ 1 (c .before .before .if1 .left)) (c .get-ready .ensures)
+
+returns-7 : tie.Need-returns-7
+returns-7 c = let a = c .before .before .before .args in sym (shown-lacking (a .field) (a .number) _ (search (needs, end, with) depth 40))
 
 pub single-field-spec : {M : Type 1} → statement M
 single-field-spec =
@@ -41,8 +45,10 @@ single-field-spec =
     (λ c. search needs)
     (λ c κs. search needs)
     (λ c. search needs)
+    (λ c κs. search needs)
     returns-2
     returns-3
     returns-4
     returns-5
-    returns-6)
+    returns-6
+    returns-7)

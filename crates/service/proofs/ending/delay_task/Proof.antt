@@ -26,7 +26,7 @@ returns-2 c =
     let size = view-shaped (a .s .now) (c .before .before .before .before .before .before .before .before .before .before .before .before .before .before .before .before .pre) .tasks in
     let stored = c .before .before .before .before .before .before .set-mark .ensures ∙ then-stored (a .i) t l size (withMark (a .marked) (a .due)) (withState delayed 0 k) _ (c .before .before .before .before .before .before .before .before .before .before .set-state .ensures) in
     c .before .before .leave-queue .ensures
-    ∙ left-put (a .i) (withState delayed 0 (withMark (a .marked) (a .due) k)) t l _ stored _ (c .before .before .before .before .before .before .before .before .before .before .before .before .place-of .ensures) (delayed-nowhere _ refl)
+    ∙ left-put (a .i) (withState delayed 0 (withMark (a .marked) (a .due) k)) t l _ stored _ (c .before .before .before .before .before .before .before .before .before .before .before .before .place-of .ensures) refl (delayed-nowhere _ refl)
 
 pub delay-task-spec : {M : Type 1} → statement M
 delay-task-spec =

@@ -1,8 +1,8 @@
 use mathlib.Core.Path.{sym}
 use native.Mathlib.Omega.{arith}
 use Rattle.table.specs.Image.{view}
-use Rattle.table.proofs.Places.{joined-queue}
 use Rattle.table.specs.Settled.{join-none}
+use Rattle.table.proofs.Places.{joins}
 use borrow.Author.Needs.{needs}
 use Rattle.table.proofs.moves.join_queue.Statement.{statement}
 use Rattle.table.proofs.moves.join_queue.Tie as tie
@@ -15,24 +15,9 @@ returns c =
 returns-2 : tie.Need-returns-2
 returns-2 c =
     let d = c .before .before in
-    let f = d .before .before in
-    let a = d .before .before .before .before .before .before .args in
-    joined-queue (a .s .now) (a .q) (a .i) (d .«open» .last .0) (omega arith) (omega arith) (f .place-in .result) (f .place-in .ensures) (d .«open» .ensures .1)
+    let f = d .before .before .before .before in
+    let a = f .before .before .before .before .args in
+    joins (a .q) (a .i) (view (a .s .now)) _ _ (omega arith) (f .insert-in .ensures) (d .add-in .ensures)
 
 pub join-queue-spec : {M : Type 1} → statement M
-join-queue-spec =
-    tie.close
-    (tie.spec
-    returns
-    (λ c. search needs)
-    (λ c. search needs)
-    (λ c. search needs)
-    (λ c κs. search needs)
-    (λ c. search needs)
-    (λ c. search needs)
-    (λ c. search needs)
-    (λ c. search needs)
-    (λ c. search needs)
-    (λ c κs. search needs)
-    (λ c. search needs)
-    returns-2)
+join-queue-spec = tie.close (tie.spec returns (λ c κs. search needs) (λ c κs. search needs) (λ c. search needs) returns-2)

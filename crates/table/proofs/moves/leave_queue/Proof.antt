@@ -1,8 +1,8 @@
 use mathlib.Core.Path.{sym}
 use native.Mathlib.Omega.{arith}
 use Rattle.table.specs.Image.{view}
-use Rattle.table.proofs.Places.{left-queue}
 use Rattle.table.specs.Settled.{leave-none}
+use Rattle.table.proofs.Places.{leaves}
 use borrow.Author.Needs.{needs}
 use Rattle.table.proofs.moves.leave_queue.Statement.{statement}
 use Rattle.table.proofs.moves.leave_queue.Tie as tie
@@ -15,21 +15,9 @@ returns c =
 returns-2 : tie.Need-returns-2
 returns-2 c =
     let d = c .before .before in
-    let a = d .before .before .before .before .args in
-    left-queue (a .s .now) (a .q) (a .i) (d .remove .last .0) (omega arith) (omega arith) (d .remove .ensures .1)
+    let f = d .before .before .before .before in
+    let a = f .before .before .before .before .args in
+    leaves (a .q) (a .i) (view (a .s .now)) _ _ (omega arith) (f .drop-in .ensures) (d .remove-in .ensures)
 
 pub leave-queue-spec : {M : Type 1} → statement M
-leave-queue-spec =
-    tie.close
-    (tie.spec
-    returns
-    (λ c. search needs)
-    (λ c. search needs)
-    (λ c. search needs)
-    (λ c. search needs)
-    (λ c. search needs)
-    (λ c. search needs)
-    (λ c. search needs)
-    (λ c κs. search needs)
-    (λ c. search needs)
-    returns-2)
+leave-queue-spec = tie.close (tie.spec returns (λ c κs. search needs) (λ c κs. search needs) (λ c. search needs) returns-2)

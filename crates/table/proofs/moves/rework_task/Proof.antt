@@ -1,8 +1,9 @@
 use mathlib.Core.Path.{sym, _∙_}
 use native.Mathlib.Omega.{arith}
 use Rattle.table.specs.Image.{view}
+use Rattle.table.specs.Shape.{view-shaped}
 use Rattle.laws.specs.chains.Graph.{work-same}
-use Rattle.table.proofs.Places.{work-moves}
+use Rattle.table.proofs.Places.{reworked}
 use borrow.Author.Needs.{needs}
 use Rattle.table.proofs.moves.rework_task.Statement.{statement}
 use Rattle.table.proofs.moves.rework_task.Tie as tie
@@ -14,9 +15,14 @@ returns c =
 
 returns-2 : tie.Need-returns-2
 returns-2 c =
-    let b = c .before .before .before .before .before .before .before .before .before .before in
+    let d = c .before .before in
+    let f = d .before .before .before .before in
+    let g = f .before .before .before .before in
+    let h = g .before .before .before .before in
+    let p = h .before .before in
+    let b = p .before .before in
     let a = b .before .before .before .before .args in
-    cc (work-moves (a .i) (a .p) (view (a .s .now)) (omega arith) (λ e. b .if1 .left (b .before .get-work .ensures ∙ e)))
+    reworked (a .i) (a .p) _ (view (a .s .now)) (omega arith) (view-shaped (a .s .now) (omega arith) .queues) (p .place-of .ensures) (λ e. b .if1 .left (b .before .get-work .ensures ∙ e)) _ _ _ _ (h .drop-there .ensures) (g .set-work .ensures) (f .move-in .ensures) (d .add-in .ensures)
 
 pub rework-task-spec : {M : Type 1} → statement M
 rework-task-spec =
@@ -25,6 +31,8 @@ rework-task-spec =
     (λ c κs. search needs)
     (λ c. search needs)
     returns
+    (λ c κs. search needs)
+    (λ c κs. search needs)
     (λ c κs. search needs)
     (λ c κs. search needs)
     (λ c κs. search needs)

@@ -1,7 +1,7 @@
-use Prim.Native.Nat.{_<_}
+use mathlib.Core.Path.{ap, _∙_}
+use Prim.Native.Nat.{ℕ}
 use native.Mathlib.Omega.{arith}
-use lib.ListN.{length}
-use Rattle.table.specs.Shape.{view-shaped}
+use Rattle.rules.specs.Table.{taskOf, withTask, withLeft}
 use Rattle.table.specs.Image.{view}
 use Rattle.table.proofs.Places.{rotate-is}
 use borrow.Author.Needs.{needs}
@@ -10,16 +10,12 @@ use Rattle.table.proofs.moves.rotate_in.Tie as tie
 
 returns : tie.Need-returns
 returns c =
-    let a = c .before .before .before .before .before .before .before .before .before .before .before .args in
-    let h : 0 < length (view (a .s .now) .queues) = omega (arith, view-shaped (a .s .now) (omega arith) .queues) in
-    cc (rotate-is (a .i) (view (a .s .now)) (omega arith) h)
+    let d = c .before .before in
+    let f = d .before .before .before .before in
+    let a = f .before .before .before .before .before .args in
+    let t = view (a .s .now) in
+    d .move-in .ensures
+    ∙ rotate-is (a .i) t _ (omega arith) (f .set-left .ensures ∙ ap (λ (n : ℕ). withTask (a .i) (withLeft n (taskOf t (a .i))) t) (f .before .before .get-quantum .ensures))
 
 pub rotate-in-spec : {M : Type 1} → statement M
-rotate-in-spec =
-    tie.close
-    (tie.spec
-    (λ c κs. search needs)
-    (λ c κs. search needs)
-    (λ c κs. search needs)
-    (λ c. search needs)
-    returns)
+rotate-in-spec = tie.close (tie.spec (λ c κs. search needs) (λ c κs. search needs) (λ c κs. search needs) (λ c. search needs) returns)

@@ -4,6 +4,7 @@ use borrow.Author.Tests.{lt-ltb}
 use Rattle.why.specs.Tests.{keptIn}
 use Rattle.why.specs.TestLaws.{end, with, kept-lacking, kept-beyond}
 use Rattle.why.specs.Zeros.{unless-is, or-is}
+use Rattle.why.specs.Ready.{word-fits}
 use borrow.Author.Needs.{needs}
 use Rattle.why.proofs.singles.is_right.Statement.{statement}
 use Rattle.why.proofs.singles.is_right.Tie as tie
@@ -40,7 +41,11 @@ unfolding keptIn
 returns-8 c = rw (c .before .match .keys7, lt-ltb _ 1 (c .before .before .before .before .if1 .left)) (cc)
 
 returns-9 : tie.Need-returns-9
-returns-9 c = let a = c .before .before .before .before .before .args in sym (kept-lacking (a .rule) (a .i) _ (search (needs, end, with) depth 60))
+unfolding keptIn
+returns-9 c = rw (c .before .match .keys8, lt-ltb _ 1 (c .before .before .before .before .if1 .left)) (cc (word-fits (c .get-ready .result)))
+
+returns-10 : tie.Need-returns-10
+returns-10 c = let a = c .before .before .before .before .before .args in sym (kept-lacking (a .rule) (a .i) _ (search (needs, end, with) depth 60))
 
 pub is-right-spec : {M : Type 1} → statement M
 is-right-spec =
@@ -56,6 +61,7 @@ is-right-spec =
     (λ c κs. search needs)
     (λ c κs. search needs)
     (λ c. search needs)
+    (λ c κs. search needs)
     returns-2
     returns-3
     returns-4
@@ -63,4 +69,5 @@ is-right-spec =
     returns-6
     returns-7
     returns-8
-    returns-9)
+    returns-9
+    returns-10)
