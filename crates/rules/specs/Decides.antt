@@ -15,6 +15,16 @@ pub record Decides (b : Bool) (P : Type 0) : Type 0 where
   pub holds : b ≡ true → P
   pub passes : P → b ≡ true
 
+-- Two tests of one statement are the same.
+pub same-test : {a b : Bool} {P : Type 0} → Decides a P → Decides b P → a ≡ b
+same-test {a} {b} {P} d f = go a b d f
+  where
+    go : (a b : Bool) → Decides a P → Decides b P → a ≡ b
+    go true true d f = refl
+    go false false d f = refl
+    go true false d f = sym (f .passes (d .holds refl))
+    go false true d f = d .passes (f .holds refl)
+
 -- ---- numbers
 
 pub equals : {x y : ℕ} → Decides (eqb x y) (x ≡ y)

@@ -16,7 +16,7 @@ use Rattle.rules.specs.Table.{Table, taskOf, isAble}
 use Rattle.rules.specs.Ready.{bitOf, isSet, withLevel, withoutLevel, firstLevel, levelsBelow}
 use Rattle.rules.specs.Sound.{Each, SoundReady, isSoundReady}
 use Rattle.rules.specs.Afresh.{lt-or-le}
-use Rattle.rules.specs.Decides.{Decides}
+use Rattle.rules.specs.Decides.{Decides, same-test, itself}
 use Rattle.rules.specs.Digits.{digit, digit-lt, digit-and, digit-or, digit-xor, digit-above, digit-top, digit-itself, digit-below, digits-same}
 
 -- ---- the bit of a level
@@ -218,12 +218,6 @@ levels-complete (suc n) m t h (i, l, a, e) = go (isAble (taskOf t n)) refl (⊎-
     go false q (inl (a, e)) = absurd (false≢true (sym q ∙ a))
     go false q (inr s) = s
 
--- Two tests that pass together are the same.
-same-test : (a b : Bool) → (a ≡ true → b ≡ true) → (b ≡ true → a ≡ true) → a ≡ b
-same-test true b f g = sym (f refl)
-same-test false true f g = g refl
-same-test false false f g = refl
-
 -- The word is the one made of the tasks' levels exactly where each bit is set as the rule says.
 pub ready : (t : Table) → Decides (isSoundReady t) (SoundReady t)
 unfolding isSoundReady
@@ -246,6 +240,9 @@ ready t =
     equation : SoundReady t → t .ready ≡ levelsBelow taskCount t
     equation r =
         words-same (t .ready) (levelsBelow taskCount t) (r .word) (levels-word taskCount t) λ l k.
-        same-test (isSet l (t .ready)) (isSet l (levelsBelow taskCount t))
-        (λ s. let a = r .levels l k .0 s in levels-complete taskCount l t k (a .task, a .range, a .able, a .level))
-        (λ s. let (i, u, a, e) = levels-sound taskCount l t k s in r .levels l k .1 (record { task = i; range = u; able = a; level = e }))
+        same-test
+        (record {
+          holds = λ s. let a = r .levels l k .0 s in levels-complete taskCount l t k (a .task, a .range, a .able, a .level);
+          passes = λ s. let (i, u, a, e) = levels-sound taskCount l t k s in r .levels l k .1 (record { task = i; range = u; able = a; level = e });
+        })
+        itself

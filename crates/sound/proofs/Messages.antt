@@ -10,8 +10,8 @@ use lib.Bits.{bitOr, and-le-l, and-le-r, or-add-and}
 use borrow.Author.Tests.{le-leb, lt-leb}
 use Rattle.rules.specs.Sizes.{mostMessages}
 use Rattle.rules.specs.Sound.{each, implies}
-use Rattle.rules.specs.Decides.{equals, last, both}
-use Rattle.sound.specs.Tests.{same-test, each-none, each-and, each-on}
+use Rattle.rules.specs.Decides.{same-test, equals, last, both}
+use Rattle.sound.specs.Tests.{each-none, each-and, each-on}
 use Rattle.sound.specs.Channels.{isFreeFrom, areFreeFrom}
 
 -- Bits of two numbers together: there are none where neither has any.

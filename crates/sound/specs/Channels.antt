@@ -12,8 +12,8 @@ use Rattle.rules.specs.declared.Channel.{Channel}
 use Rattle.rules.specs.Table.{Table, channelOf, rowOf}
 use Rattle.rules.specs.Sound.{Each, each, implies, SoundChannel, isSoundChannel}
 use Rattle.rules.specs.Tested.{channel-right}
-use Rattle.rules.specs.Decides.{Decides, equals, at-most, fails, if-so, first, last, each-one}
-use Rattle.sound.specs.Tests.{same-test, unless}
+use Rattle.rules.specs.Decides.{Decides, same-test, equals, at-most, fails, if-so, first, last, each-one}
+use Rattle.sound.specs.Tests.{unless}
 
 -- What is in use has room for a message, and no other has.
 unfoldable pub hasSoundRoom : Channel → Bool

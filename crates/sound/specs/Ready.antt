@@ -20,11 +20,10 @@ use Rattle.rules.specs.Ready.{isSet, withLevel, levelsBelow}
 use Rattle.rules.specs.Levels.{set-with, set-none, with-word, words-same, ready}
 use Rattle.rules.specs.Sound.{Each, once, HasAble, SoundReady, isSoundReady, Shaped, SoundQueues, isSoundQueues}
 use Rattle.rules.specs.Tested.{queued}
-use Rattle.rules.specs.Decides.{Decides, equals, itself, either, first, last}
+use Rattle.rules.specs.Decides.{Decides, same-test, equals, itself, either, first, last}
 use Rattle.laws.specs.queues.Put.{work-at}
 use Rattle.laws.specs.queues.Stands.{able-stands, able-there, slot-range, slot-there}
 use Rattle.laws.specs.queues.Neighbours.{all-at, place-at}
-use Rattle.sound.specs.Tests.{same-test}
 
 -- ---- the queues apart from the word
 

@@ -16,8 +16,8 @@ use Rattle.rules.specs.Table.{Table, taskOf, semaphoreOf, mutexOf, groupOf, cha
 use Rattle.rules.specs.Family.{lastState, ofState, objectsIn}
 use Rattle.rules.specs.Sound.{Each, each, implies, marksIn, asksIn, SoundTask, SoundTasks, isSoundTask, isSoundSemaphore, SoundMutex, isSoundMutex, isSoundGroup, isSoundChannel, NotDue}
 use Rattle.rules.specs.Tested.{task-right, semaphore-right, mutex-right, group-right}
-use Rattle.rules.specs.Decides.{Decides, equals, at-most, fails, if-so, first, last, both, each-one}
-use Rattle.sound.specs.Tests.{same-test, otherwise, unless}
+use Rattle.rules.specs.Decides.{Decides, same-test, equals, at-most, fails, if-so, first, last, both, each-one}
+use Rattle.sound.specs.Tests.{otherwise, unless}
 
 -- ---- a task
 

@@ -11,16 +11,6 @@ use Rattle.rules.specs.Decides.{Decides}
 
 -- ---- two tests
 
--- Two tests of one statement are the same.
-pub same-test : {a b : Bool} {P : Type 0} → Decides a P → Decides b P → a ≡ b
-same-test {a} {b} {P} d f = go a b d f
-  where
-    go : (a b : Bool) → Decides a P → Decides b P → a ≡ b
-    go true true d f = refl
-    go false false d f = refl
-    go true false d f = sym (f .passes (d .holds refl))
-    go false true d f = d .passes (f .holds refl)
-
 -- Where the first fails, the second is asked.
 pub otherwise : {a b : Bool} {A B : Type 0} → Decides a A → Decides b B → Decides (a || b) ((A → ⊥) → B)
 otherwise {a} {b} {A} {B} d f = go a d

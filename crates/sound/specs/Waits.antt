@@ -13,12 +13,12 @@ use Rattle.rules.specs.Family.{Family, Among, families, mutexes, waitersOf, obj
 use Rattle.rules.specs.Sound.{Each, each, eachOf, implies, Shaped, SoundTasks, MayWait, SoundWait, isSoundWait, SoundQueues}
 use Rattle.rules.specs.Afresh.{lt-or-le}
 use Rattle.rules.specs.Tested.{wait-right}
-use Rattle.rules.specs.Decides.{Decides, equals, at-most, itself, fails, if-so, first, last, both, each-one, each-of}
+use Rattle.rules.specs.Decides.{Decides, same-test, equals, at-most, itself, fails, if-so, first, last, both, each-one, each-of}
 use Rattle.sound.specs.Ready.{worded}
 use Rattle.laws.specs.queues.Rows.{among-mutexes, of-families, first-queue, last-queue, numbers, one-family, one-queue}
 use Rattle.laws.specs.queues.Stands.{free-place, waiter-place, waiter-there, first-range, first-there, empty-none}
 use Rattle.laws.specs.keeps.Objects.{may-apart}
-use Rattle.sound.specs.Tests.{same-test, always}
+use Rattle.sound.specs.Tests.{always}
 
 -- ---- the tests
 

@@ -11,8 +11,7 @@ use Rattle.rules.specs.Sizes.{taskCount, semaphoreCount, mutexCount, groupCount
 use Rattle.rules.specs.Table.{Table, taskOf, semaphoreOf, mutexOf, groupOf, channelOf, rowOf, queueCount, ableQueue, firstIn, isAble}
 use Rattle.rules.specs.Sound.{Each, each, Shaped, SoundTasks, SoundQueues, isSoundTask, isSoundSemaphore, isSoundMutex, isSoundGroup, isSoundChannel, isSoundReady, isSoundQueues, isWorkedOut, SoundNumbers, isSoundNumbers, isSoundRuns, isSoundObjects, isSoundWithin, isSound}
 use Rattle.rules.specs.Tested.{queued, numbers-right}
-use Rattle.rules.specs.Decides.{Decides, equals, at-most, itself, fails, first, last, both, each-one}
-use Rattle.sound.specs.Tests.{same-test}
+use Rattle.rules.specs.Decides.{Decides, same-test, equals, at-most, itself, fails, first, last, both, each-one}
 use Rattle.sound.specs.Ready.{worded, word-apart}
 use Rattle.sound.specs.Rows.{areNotDue, areTasksSound, areObjectsSound}
 use Rattle.sound.specs.Packed.{leads, frees, slotCount, packed-all, ordered-packed}

@@ -1,16 +1,15 @@
 -- How tasks change their places, in the image and in the table.
 use mathlib.Core.Path.{_≡_, refl, sym, ap, ap₂, _∙_}
-use mathlib.Core.Logic.{⊎-elim}
 use mathlib.Core.Bool.{cond}
 use mathlib.Core.List.{List, []}
 use Prim.Native.Nat.{ℕ, _+_, _-_, _≤_, _<_}
 use native.Mathlib.Omega.{arith}
 use lib.Dec.{eqb}
 use lib.ListN.{length, getD, take, drop, length-take, length-drop}
-use lib.Seq.{ext-getD, getD-take, getD-drop, getD-set-same, set-set, set-out}
+use lib.Seq.{ext-getD, getD-take, getD-drop, getD-set-same, set-set}
 use borrow.Author.Tests.{eq-eqb, ne-eqb}
 use borrow.Rule.Slice.PartMut.{putMid}
-use Rattle.queue.specs.Slots.{placeBehind, opened, behind, without, moved}
+use Rattle.queue.specs.Slots.{placeOf as placeIn, placeBehind, opened, closed, behind, without, moved}
 use Rattle.queue.specs.Slide.{lifted, slidWithin, packedAt, slid-within, moved-packed}
 use Rattle.queue.specs.Lengths.{length-behind, length-without}
 use Rattle.columns.specs.Columns.{offset, place, columns, entry}
@@ -19,15 +18,14 @@ use Rattle.columns.specs.Words.{byte-read}
 use Rattle.columns.specs.Rows.{tabulate-at, tabulate-long, tabulate-map, records}
 use Rattle.rules.specs.declared.Task.{Task}
 use Rattle.rules.specs.Sizes.{taskCount, levelCount}
-use Rattle.rules.specs.Table.{Table, queueCount, ableQueue, taskOf, queueOf, works, firstIn, withTask, withQueues, withQueue, withRunning, withReady, withWork, withLeft}
+use Rattle.rules.specs.Table.{Table, queueCount, ableQueue, taskOf, queueOf, works, firstIn, withTask, withQueue, withRunning, withReady, withWork, withLeft}
 use Rattle.rules.specs.Family.{placeOf}
 use Rattle.rules.specs.Ready.{firstLevel, readyWith}
 use Rattle.rules.specs.Move.{leave, join, putWork, rotate, chosen}
-use Rattle.rules.specs.Afresh.{lt-or-le}
 use Rattle.laws.specs.queues.Put.{place-same, rotate-in}
 use Rattle.table.specs.kinds.Task.{made, workColumn}
 use Rattle.table.specs.Image.{Image, slotCount, layout, view}
-use Rattle.table.specs.Ready.{wordLeft, wordJoined, left-other, joined-other, leave-is, join-is, works-stored}
+use Rattle.table.specs.Ready.{wordLeft, wordJoined, reworkedIn, leave-is, join-is, works-stored}
 use Rattle.table.specs.Settled.{leave-none, join-none, put-works}
 use Rattle.table.specs.Queues.{queueAt, view-queue, view-slots, queue-put}
 
@@ -59,10 +57,6 @@ module _ (q i : ℕ) (t u v : Table) (h : q < queueCount) where
 
 -- ---- slots
 
--- A queue that there is not.
-pub moved-none : (q i : ℕ) (t : Table) → queueCount ≤ q → length (t .queues) ≡ queueCount → t ≡ withQueue q (moved (works t) i (queueOf t q)) t
-moved-none q i t h n = rw (set-out (t .queues) q (moved (works t) i (queueOf t q)) (omega arith))
-
 -- To leave the slots of a queue and to join them again.
 pub moved-again : (q i : ℕ) (t u v : Table) → q < queueCount → length (t .queues) ≡ queueCount → u ≡ withQueue q (without i (queueOf t q)) t → v ≡ withQueue q (behind (works u) i (queueOf u q)) u
     → v ≡ withQueue q (moved (works t) i (queueOf t q)) t
@@ -92,6 +86,9 @@ module _ (l : List ℕ) (q i : ℕ) (ys : List ℕ) (p : q < queueCount) (h : Im
       let n : length ys ≡ slotCount = ap length y ∙ length-without i (queueOf (view l) q) ∙ view-slots l h q p in
       queue-put l q a (a + slotCount) h p refl refl ys n ∙ ap (λ (z : List ℕ). withQueue q z (view l)) y
 
+  pub closed-queue : (at : ℕ) → at ≡ placeIn i (queueOf (view l) q) → ys ≡ closed at (take (a + slotCount - a) (drop a l)) → view (putMid a (a + slotCount - a) l ys) ≡ withQueue q (without i (queueOf (view l) q)) (view l)
+  closed-queue at e d = left-queue (d ∙ ap (λ (n : ℕ). closed n (take (a + slotCount - a) (drop a l))) (e ∙ ap (placeIn i) (sym lent)))
+
   pub joined-queue : (at : ℕ) → at ≡ placeBehind (works (view l)) (getD (works (view l)) i 0) (queueOf (view l) q) → ys ≡ opened at (i + 1) (take (a + slotCount - a) (drop a l)) → view (putMid a (a + slotCount - a) l ys) ≡ withQueue q (behind (works (view l)) i (queueOf (view l) q)) (view l)
   joined-queue at e d =
       let y : ys ≡ behind (works (view l)) i (queueOf (view l) q) = d ∙ ap₂ (λ (a : ℕ) (z : List ℕ). opened a (i + 1) z) e lent in
@@ -112,52 +109,65 @@ module _ (l : List ℕ) (q i : ℕ) (ys : List ℕ) (p : q < queueCount) (h : Im
 
 -- ---- a task that goes behind its equals
 
--- Another working priority: the task leaves its level, goes behind its equals, and joins the new level.
-module _ (i p q : ℕ) (t : Table) (l : i < taskCount) (n : length (t .queues) ≡ queueCount) (a : q ≡ placeOf (taskOf t i)) (d : taskOf t i .work ≡ p → ⊥) where
+-- Another working priority.
+module _ (i p q : ℕ) (t : Table) where
   abbrev k : Task
   k = withWork p (taskOf t i)
 
-  abbrev placed : Table
-  placed = withTask i k (withReady (wordLeft q i t) t)
+  -- The task leaves its level, goes behind its equals, and joins the new level.
+  module _ (h : q < queueCount) (n : length (t .queues) ≡ queueCount) where
+    abbrev placed : Table
+    placed = withTask i k (withReady (wordLeft q i t) t)
 
-  abbrev slots : List ℕ
-  slots = moved (works placed) i (queueOf t q)
+    abbrev slots : List ℕ
+    slots = moved (works placed) i (queueOf t q)
 
-  reworks : putWork t i p ≡ join q i (withTask i k (leave q i t))
-  reworks =
-      put-works i k t l d
-      ∙ ap (λ (x : ℕ). join x i (withTask i k (leave (placeOf (taskOf t i)) i t))) (place-same (taskOf t i) k refl refl refl refl)
-      ∙ ap (λ (x : ℕ). join x i (withTask i k (leave x i t))) (sym a)
+    slid-there : withReady (wordJoined q i (withQueue q slots placed)) (withQueue q slots placed) ≡ reworkedIn q i p t
+    unfolding reworkedIn wordJoined readyWith works
+    slid-there =
+        let x : List ℕ = without i (queueOf t q) in
+        let u : Table = withTask i k (withReady (wordLeft q i t) (withQueue q x t)) in
+        sym
+        (ap (λ (y : Table). join q i (withTask i (withWork p (taskOf y i)) y)) (leave-is q i t h)
+        ∙ join-is q i u h
+        ∙ ap (λ (old : List ℕ). withReady (wordJoined q i u) (withQueue q (behind (works u) i old) u)) (getD-set-same (t .queues) q x [] (omega arith))
+        ∙ rw set-set)
 
-  rework-there : q < queueCount → withReady (wordJoined q i (withQueue q slots placed)) (withQueue q slots placed) ≡ putWork t i p
-  unfolding wordJoined readyWith works
-  rework-there h =
-      let x : List ℕ = without i (queueOf t q) in
-      let u : Table = withTask i k (withReady (wordLeft q i t) (withQueue q x t)) in
-      sym
-      (reworks
-      ∙ ap (λ (y : Table). join q i (withTask i k y)) (leave-is q i t h)
-      ∙ join-is q i u h
-      ∙ ap (λ (old : List ℕ). withReady (wordJoined q i u) (withQueue q (behind (works u) i old) u)) (getD-set-same (t .queues) q x [] (omega arith))
-      ∙ rw set-set)
+    pub rework-slid : (u v w x : Table) → u ≡ withReady (wordLeft q i t) t → v ≡ withTask i (withWork p (taskOf u i)) u → w ≡ withQueue q (moved (works v) i (queueOf v q)) v
+        → x ≡ withReady (wordJoined q i w) w → x ≡ reworkedIn q i p t
+    rework-slid u v w x e f g h =
+        h
+        ∙ ap (λ (y : Table). withReady (wordJoined q i y) y)
+        (g
+        ∙ ap (λ (y : Table). withQueue q (moved (works y) i (queueOf y q)) y)
+        (f ∙ ap (λ (y : Table). withTask i (withWork p (taskOf y i)) y) e))
+        ∙ slid-there
 
-  rework-none : queueCount ≤ q → withReady (wordJoined q i (withQueue q slots placed)) (withQueue q slots placed) ≡ putWork t i p
-  rework-none h =
-      let away : (q ≡ 0 → ⊥) = λ e. omega arith in
-      ap (λ (w : ℕ). withReady w (withQueue q slots placed)) (joined-other q i (withQueue q slots placed) away)
-      ∙ ap (λ (x : List (List ℕ)). withQueues x placed) (set-out (t .queues) q slots (omega arith))
-      ∙ ap (λ (w : ℕ). withTask i k (withReady w t)) (left-other q i t away)
-      ∙ sym (reworks ∙ ap (λ (y : Table). join q i (withTask i k y)) (leave-none q i t h) ∙ join-none q i (withTask i k t) h)
+  -- Its queue stays as it was until it slides.
+  pub packed-still : (at : ℕ) (u v : Table) → u ≡ withReady (wordLeft q i t) t → v ≡ withTask i (withWork p (taskOf u i)) u → at ≡ packedAt (i + 1) (queueOf t q) → at ≡ packedAt (i + 1) (queueOf v q)
+  packed-still at u v e f g = g ∙ sym (ap (λ (y : Table). packedAt (i + 1) (queueOf y q)) (f ∙ ap (λ (y : Table). withTask i (withWork p (taskOf y i)) y) e))
 
-  pub reworked : (u v w x : Table) → u ≡ withReady (wordLeft q i t) t → v ≡ withTask i (withWork p (taskOf u i)) u → w ≡ withQueue q (moved (works v) i (queueOf v q)) v
-      → x ≡ withReady (wordJoined q i w) w → x ≡ putWork t i p
-  reworked u v w x e f g h =
-      h
-      ∙ ap (λ (y : Table). withReady (wordJoined q i y) y)
-      (g
-      ∙ ap (λ (y : Table). withQueue q (moved (works y) i (queueOf y q)) y)
-      (f ∙ ap (λ (y : Table). withTask i (withWork p (taskOf y i)) y) e))
-      ∙ ⊎-elim rework-there rework-none (lt-or-le q queueCount)
+  -- Or it leaves the queue and joins it.
+  pub rework-again : (u v w : Table) → u ≡ leave q i t → v ≡ withTask i (withWork p (taskOf u i)) u → w ≡ join q i v → w ≡ reworkedIn q i p t
+  unfolding reworkedIn
+  rework-again u v w e f g = g ∙ ap (join q i) (f ∙ ap (λ (y : Table). withTask i (withWork p (taskOf y i)) y) e)
+
+  module _ (l : i < taskCount) (a : q ≡ placeOf (taskOf t i)) (d : taskOf t i .work ≡ p → ⊥) where
+    reworks : putWork t i p ≡ join q i (withTask i k (leave q i t))
+    reworks =
+        put-works i k t l d
+        ∙ ap (λ (x : ℕ). join x i (withTask i k (leave (placeOf (taskOf t i)) i t))) (place-same (taskOf t i) k refl refl refl refl)
+        ∙ ap (λ (x : ℕ). join x i (withTask i k (leave x i t))) (sym a)
+
+    pub rework-there : q < queueCount → reworkedIn q i p t ≡ putWork t i p
+    unfolding reworkedIn
+    rework-there h =
+        let out : Table = withReady (wordLeft q i t) (withQueue q (without i (queueOf t q)) t) in
+        let at : leave q i t ≡ out = leave-is q i t h in
+        ap (λ (y : Table). join q i (withTask i (withWork p (taskOf y i)) y)) at ∙ ap (λ (y : Table). join q i (withTask i k y)) (sym at) ∙ sym reworks
+
+    pub rework-none : queueCount ≤ q → withTask i k t ≡ putWork t i p
+    rework-none h = sym (reworks ∙ ap (λ (y : Table). join q i (withTask i k y)) (leave-none q i t h) ∙ join-none q i (withTask i k t) h)
 
 -- A rotation moves the task within the able queue.
 pub rotate-is : (i : ℕ) (t u : Table) → i < taskCount → u ≡ withTask i (withLeft (taskOf t i .quantum) (taskOf t i)) t → withQueue 0 (moved (works u) i (queueOf u 0)) u ≡ rotate i t

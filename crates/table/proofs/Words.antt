@@ -14,7 +14,7 @@ use Rattle.queue.specs.Order.{level}
 use Rattle.rules.specs.Table.{Table, ableQueue, taskOf, queueOf, slotIn, works, withReady}
 use Rattle.rules.specs.Ready.{bitOf, withoutLevel, isAt, beside, readyWithout}
 use Rattle.table.specs.Image.{slotCount}
-use Rattle.table.specs.Ready.{work-at}
+use Rattle.laws.specs.queues.Put.{work-at}
 
 -- ---- a word
 
@@ -58,21 +58,14 @@ module _ (i at l : ℕ) (t : Table) (a : at ≡ placeOf i (queueOf t ableQueue))
     pub beside-before : (at ≡ 0 → ⊥) → isAt l (at - 1) t ≡ beside i t
     beside-before d = sym (beside-is ∙ ap (λ (b : Bool). b || (not (eqb at 0) && isAt l (at - 1) t)) e ∙ ap (λ (b : Bool). not b && isAt l (at - 1) t) (ne-eqb at 0 d))
 
--- Who is the first has its equals behind it alone.
+-- Who is the first stands in slot 0.
 first-place : (v : ℕ) (l : List ℕ) → (v ≡ 0 → ⊥) → getD l 0 0 ≡ v → firstAt (same v) l ≡ 0
 unfolding firstAt
 first-place v [] n e = refl
 first-place v (x ∷ xs) n e = rw (eq-eqb x v e)
 
-or-none : (b c : Bool) → (b || (false && c)) ≡ b
-or-none true c = refl
-or-none false c = refl
-
-pub beside-first : (i l : ℕ) (t : Table) → slotIn ableQueue 0 t ≡ i + 1 → l ≡ taskOf t i .work → isAt l 1 t ≡ beside i t
-unfolding beside
-beside-first i l t e w =
-    let z : placeOf i (queueOf t ableQueue) ≡ 0 = first-place (i + 1) (queueOf t ableQueue) (λ x. omega arith) e in
-    rw (z, ← w) (sym (or-none (isAt l 1 t) (isAt l 0 t)))
+pub first-found : (i : ℕ) (t : Table) → slotIn ableQueue 0 t ≡ i + 1 → 0 ≡ placeOf i (queueOf t ableQueue)
+first-found i t e = sym (first-place (i + 1) (queueOf t ableQueue) (λ x. omega arith) e)
 
 -- ---- a task leaves its level, or stays
 

@@ -4,15 +4,16 @@ use mathlib.Core.Bool.{Bool, true, false, cond, not, _&&_, _||_}
 use mathlib.Core.List.{List}
 use Prim.Native.Nat.{ℕ, _+_, _-_, _<_}
 use lib.Dec.{eqb, ltb}
-use lib.ListN.{getD, List·getD-map}
+use lib.ListN.{getD}
 use lib.Seq.{map-set-same}
 use borrow.Author.Tests.{eq-eqb, ne-eqb, lt-ltb}
 use Rattle.queue.specs.Slots.{placeOf, behind, without}
 use Rattle.queue.specs.Order.{level}
 use Rattle.rules.specs.declared.Task.{Task}
-use Rattle.rules.specs.Table.{Table, queueCount, ableQueue, taskOf, queueOf, works, noTask, withTask, withQueue, withReady}
+use Rattle.rules.specs.Table.{Table, queueCount, ableQueue, taskOf, queueOf, works, noTask, withTask, withQueue, withReady, withWork}
 use Rattle.rules.specs.Ready.{withoutLevel, beside, readyWithout, readyWith}
 use Rattle.rules.specs.Move.{leave, join}
+use Rattle.laws.specs.queues.Put.{work-at}
 
 -- The word after task i has left queue q, and after it has joined it.
 unfoldable pub wordLeft : (q i : ℕ) → Table → ℕ
@@ -20,6 +21,10 @@ wordLeft q i t = cond (eqb q ableQueue) (readyWithout i t) (t .ready)
 
 unfoldable pub wordJoined : (q i : ℕ) → Table → ℕ
 wordJoined q i t = cond (eqb q ableQueue) (readyWith i t) (t .ready)
+
+-- A task of queue q whose working priority becomes p: it leaves with the old one, and joins with the new.
+unfoldable pub reworkedIn : (q i p : ℕ) → Table → Table
+reworkedIn q i p t = let u = leave q i t in join q i (withTask i (withWork p (taskOf u i)) u)
 
 module _ (q i : ℕ) (t : Table) where
   pub left-able : q ≡ ableQueue → wordLeft q i t ≡ readyWithout i t
@@ -47,10 +52,6 @@ module _ (q i : ℕ) (t : Table) where
   join-is h = rw (lt-ltb q queueCount h)
 
 -- ---- what a task's leaving goes by: the working priorities, the queue and the word
-
-pub work-at : (t : Table) (i : ℕ) → getD (works t) i 0 ≡ taskOf t i .work
-unfolding works
-work-at t i = List·getD-map (λ k. k .work) (t .tasks) i noTask
 
 abbrev besideBy : ℕ → (keys slots : List ℕ) → Bool
 besideBy i keys slots =

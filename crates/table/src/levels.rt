@@ -62,22 +62,22 @@ pub fn is_at(s: &[u8], l: u8, k: usize) -> bool
     tasks::work_at(s, v - 1) == l
 }
 
-// Where task i stands in the able queue, or SLOTS.
-fn place_of_able(s: &[u8], i: usize) -> usize
-    requires { ⌜ (i < taskCount) × Image (now s) ⌝ }
-    ensures { λ r. ⌜ (r ≡ placeIn i (queueOf (view (now (s .entry))) ableQueue)) × (r ≤ slotCount) ⌝ }
+// Where task id stands in the able queue, or SLOTS. It is a byte, as the slots are: then the compiler compares each where it lies.
+pub fn place_of_able(s: &[u8], id: u8) -> usize
+    requires { ⌜ (id < taskCount) × Image (now s) ⌝ }
+    ensures { λ r. ⌜ (r ≡ placeIn id (queueOf (view (now (s .entry))) ableQueue)) × (r ≤ slotCount) ⌝ }
 {
     let a = layout::QUEUE + layout::SLOTS * layout::ABLE_QUEUE;
     let e = a + layout::SLOTS;
-    queue::slides::slot_of(&s[a..e], i + 1)
+    queue::slides::slot_of(&s[a..e], id as usize + 1)
 }
 
-// Whether a neighbour of task i in the able queue has its level. Equals stand together there, so no other need be asked.
-fn has_equal(s: &[u8], i: usize) -> bool
-    requires { ⌜ (i < taskCount) × Image (now s) ⌝ }
+// Whether a neighbour of task i, which stands in slot `at` of the able queue, has its level. Equals stand together there, so no other need be
+// asked.
+fn has_equal(s: &[u8], i: usize, at: usize) -> bool
+    requires { ⌜ (i < taskCount) × (at ≤ slotCount) × (at ≡ placeIn i (queueOf (view (now s)) ableQueue)) × Image (now s) ⌝ }
     ensures { λ r. ⌜ r ≡ beside i (view (now (s .entry))) ⌝ }
 {
-    let at = place_of_able(s, i);
     let l = tasks::get_work(s, i);
     if is_at(s, l, at + 1) {
         return true;
@@ -86,17 +86,6 @@ fn has_equal(s: &[u8], i: usize) -> bool
         return false;
     }
     is_at(s, l, at - 1)
-}
-
-// The same, without a search where the task is the first, as the running task mostly is.
-pub fn is_beside(s: &[u8], i: usize) -> bool
-    requires { ⌜ (i < taskCount) × Image (now s) ⌝ }
-    ensures { λ r. ⌜ r ≡ beside i (view (now (s .entry))) ⌝ }
-{
-    if moves::slot_in(s, layout::ABLE_QUEUE, 0) as usize == i + 1 {
-        return is_at(s, tasks::get_work(s, i), 1);
-    }
-    has_equal(s, i)
 }
 
 fn clear_level(s: &mut [u8], i: usize)
@@ -108,12 +97,12 @@ fn clear_level(s: &mut [u8], i: usize)
     numbers::set_ready(s, without_level(word, l));
 }
 
-// Before task i leaves the able queue: its level's bit is cleared, unless a neighbour has its level.
-pub fn drop_level(s: &mut [u8], i: usize)
-    requires { ⌜ (i < taskCount) × Image (now s) ⌝ }
+// Before task i leaves the able queue, where it stands in slot `at`: its level's bit is cleared, unless a neighbour has its level.
+pub fn drop_at(s: &mut [u8], i: usize, at: usize)
+    requires { ⌜ (i < taskCount) × (at ≤ slotCount) × (at ≡ placeIn i (queueOf (view (now s)) ableQueue)) × Image (now s) ⌝ }
     ensures { λ _. ⌜ view (now (s .exit)) ≡ withReady (readyWithout i (view (now (s .entry)))) (view (now (s .entry))) ⌝ }
 {
-    if is_beside(s, i) {
+    if has_equal(s, i, at) {
         return;
     }
     clear_level(s, i);
@@ -129,27 +118,13 @@ pub fn add_level(s: &mut [u8], i: usize)
     numbers::set_ready(s, with_level(word, l));
 }
 
-// The same for any queue: the word is changed where q is the able one.
-pub fn drop_in(s: &mut [u8], q: usize, i: usize)
-    requires { ⌜ (i < taskCount) × Image (now s) ⌝ }
+// Both for any queue: the word is changed where q is the able one. Who leaves stands in slot `at` of q.
+pub fn drop_from(s: &mut [u8], q: usize, i: usize, at: usize)
+    requires { ⌜ (i < taskCount) × (at ≤ slotCount) × (at ≡ placeIn i (queueOf (view (now s)) q)) × Image (now s) ⌝ }
     ensures { λ _. ⌜ view (now (s .exit)) ≡ withReady (wordLeft q i (view (now (s .entry)))) (view (now (s .entry))) ⌝ }
 {
     if q == layout::ABLE_QUEUE {
-        drop_level(s, i);
-    }
-}
-
-// The same of a task whose working priority changes where it stands, mostly not as the first. The search is called from here too, so that the
-// compiler keeps it out of the way of the first.
-pub fn drop_there(s: &mut [u8], q: usize, i: usize)
-    requires { ⌜ (i < taskCount) × Image (now s) ⌝ }
-    ensures { λ _. ⌜ view (now (s .exit)) ≡ withReady (wordLeft q i (view (now (s .entry)))) (view (now (s .entry))) ⌝ }
-{
-    if q == layout::ABLE_QUEUE {
-        if has_equal(s, i) {
-            return;
-        }
-        clear_level(s, i);
+        drop_at(s, i, at);
     }
 }
 

@@ -7,7 +7,7 @@ ghost use mathlib.Core.Bool.{cond};
 ghost use Prim.Native.Nat.{_+_, _≤_, _<_};
 ghost use lib.Dec.{eqb};
 ghost use lib.ListN.{getD};
-ghost use Rattle.queue.specs.Slots.{placeBehind, behind, without, moved};
+ghost use Rattle.queue.specs.Slots.{placeOf as placeIn, placeBehind, behind, without, moved};
 ghost use Rattle.queue.specs.Slide.{lifted, packedAt};
 ghost use Rattle.rules.specs.Sizes.{taskCount, levelCount};
 ghost use Rattle.rules.specs.Table.{queueCount, ableQueue, taskOf, queueOf, works, isAble, firstIn, noTask, withQueue};
@@ -15,6 +15,7 @@ ghost use Rattle.rules.specs.Family.{placeOf};
 ghost use Rattle.rules.specs.Ready.{firstLevel};
 ghost use Rattle.rules.specs.Move.{leave, join, put, putWork, rotate, chosen};
 ghost use Rattle.table.specs.Image.{Image, slotCount, view};
+ghost use Rattle.table.specs.Ready.{reworkedIn};
 ghost use Rattle.table.specs.Settled.{settled};
 use crate::layout;
 use crate::levels;
@@ -68,7 +69,31 @@ fn remove_in(s: &mut [u8], q: usize, i: usize)
     queue::remove(&mut s[a..e], i as u8);
 }
 
-// Task i leaves queue q, if there is such a queue. The word asks who stands beside it, so it comes first.
+// Task i leaves the able queue, where it stands in slot `at`. The word asks who stands beside it, so it comes first.
+fn leave_from(s: &mut [u8], i: usize, at: usize)
+    requires { ⌜ (i < taskCount) × (at ≤ slotCount) × (at ≡ placeIn i (queueOf (view (now s)) ableQueue)) × Image (now s) ⌝ }
+    ensures { λ _. ⌜ view (now (s .exit)) ≡ leave ableQueue i (view (now (s .entry))) ⌝ }
+{
+    levels::drop_at(s, i, at);
+    let a = layout::QUEUE + layout::SLOTS * layout::ABLE_QUEUE;
+    let e = a + layout::SLOTS;
+    queue::close(&mut s[a..e], at);
+}
+
+// Task i leaves the able queue. One search serves the word and the slots, and none is made where it is the first, as the running task mostly is.
+fn leave_able(s: &mut [u8], i: usize)
+    requires { ⌜ (i < taskCount) × Image (now s) ⌝ }
+    ensures { λ _. ⌜ view (now (s .exit)) ≡ leave ableQueue i (view (now (s .entry))) ⌝ }
+{
+    if slot_in(s, layout::ABLE_QUEUE, 0) as usize == i + 1 {
+        leave_from(s, i, 0);
+        return;
+    }
+    let at = levels::place_of_able(s, i as u8);
+    leave_from(s, i, at);
+}
+
+// Task i leaves queue q, if there is such a queue.
 pub fn leave_queue(s: &mut [u8], q: usize, i: usize)
     requires { ⌜ (i < taskCount) × Image (now s) ⌝ }
     ensures { λ _. ⌜ view (now (s .exit)) ≡ leave q i (view (now (s .entry))) ⌝ }
@@ -76,7 +101,10 @@ pub fn leave_queue(s: &mut [u8], q: usize, i: usize)
     if layout::QUEUES <= q {
         return;
     }
-    levels::drop_in(s, q, i);
+    if q == layout::ABLE_QUEUE {
+        leave_able(s, i);
+        return;
+    }
     remove_in(s, q, i);
 }
 
@@ -144,21 +172,26 @@ fn place_again(s: &[u8], q: usize, i: usize, at: usize) -> usize
     )
 }
 
-// The slots of queue q with task i behind its equals, from where it stands there, if there is such a queue. Only those between the two places
-// move, unless a free slot stands before the task, as in no queue that is packed.
-fn move_in(s: &mut [u8], q: usize, i: usize)
-    requires { ⌜ (i < taskCount) × Image (now s) ⌝ }
+// The slots of queue q with task i behind its equals, from slot `at`, where it stands with no free slot before it. Only those between the two
+// places move.
+fn slide_in(s: &mut [u8], q: usize, i: usize, at: usize)
+    requires { ⌜ (i < taskCount) × (q < queueCount) × (at < slotCount) × (at ≡ packedAt (i + 1) (queueOf (view (now s)) q)) × Image (now s) ⌝ }
     ensures { λ _. ⌜ view (now (s .exit)) ≡ withQueue q (moved (works (view (now (s .entry)))) i (queueOf (view (now (s .entry))) q)) (view (now (s .entry))) ⌝ }
 {
-    if layout::QUEUES <= q {
-        return;
-    }
+    let to = place_again(s, q, i, at);
+    let a = layout::QUEUE + layout::SLOTS * q;
+    let e = a + layout::SLOTS;
+    queue::slides::slide(&mut s[a..e], at, to, i as u8 + 1);
+}
+
+// The same from where it stands. With a free slot before it, as in no queue that is packed, a slide would leave something else.
+fn move_in(s: &mut [u8], q: usize, i: usize)
+    requires { ⌜ (i < taskCount) × (q < queueCount) × Image (now s) ⌝ }
+    ensures { λ _. ⌜ view (now (s .exit)) ≡ withQueue q (moved (works (view (now (s .entry)))) i (queueOf (view (now (s .entry))) q)) (view (now (s .entry))) ⌝ }
+{
     let at = packed_in(s, q, i);
     if at < layout::SLOTS {
-        let to = place_again(s, q, i, at);
-        let a = layout::QUEUE + layout::SLOTS * q;
-        let e = a + layout::SLOTS;
-        queue::slides::slide(&mut s[a..e], at, to, i as u8 + 1);
+        slide_in(s, q, i, at);
         return;
     }
     remove_in(s, q, i);
@@ -216,6 +249,25 @@ pub fn clear_task(s: &mut [u8], i: usize)
     tasks::store(s, i, tasks::no_task());
 }
 
+// The working priority of task i, which stands in queue q, becomes p. One search serves the word and the slots; where a free slot stands before the
+// task, it leaves and joins.
+fn rework_in(s: &mut [u8], q: usize, i: usize, p: u8)
+    requires { ⌜ (i < taskCount) × (q < queueCount) × Image (now s) ⌝ }
+    ensures { λ _. ⌜ view (now (s .exit)) ≡ reworkedIn q i p (view (now (s .entry))) ⌝ }
+{
+    let at = packed_in(s, q, i);
+    if at < layout::SLOTS {
+        levels::drop_from(s, q, i, at);
+        tasks::set_work(s, i, p);
+        slide_in(s, q, i, at);
+        levels::add_in(s, q, i);
+        return;
+    }
+    leave_queue(s, q, i);
+    tasks::set_work(s, i, p);
+    join_queue(s, q, i);
+}
+
 // The working priority of task i becomes p; where that is another, the task goes behind its equals.
 pub fn rework_task(s: &mut [u8], i: usize, p: u8)
     requires { ⌜ (i < taskCount) × Image (now s) ⌝ }
@@ -225,10 +277,11 @@ pub fn rework_task(s: &mut [u8], i: usize, p: u8)
         return;
     }
     let q = place_of(s, i);
-    levels::drop_there(s, q, i);
-    tasks::set_work(s, i, p);
-    move_in(s, q, i);
-    levels::add_in(s, q, i);
+    if layout::QUEUES <= q {
+        tasks::set_work(s, i, p);
+        return;
+    }
+    rework_in(s, q, i, p);
 }
 
 fn rotate_in(s: &mut [u8], i: usize)

@@ -2,14 +2,13 @@
 use mathlib.Core.Path.{_≡_, refl, sym, ap, subst, _∙_}
 use mathlib.Core.Logic.{inl, inr, _↔_}
 use mathlib.Core.Bool.{Bool, true, false, cond, not, _&&_, _||_}
-use mathlib.Core.List.{List, [], _∷_}
-use Prim.Native.Nat.{ℕ, suc, _≤_, _<_}
-use native.Mathlib.Nat.{not-suc-le-zero, le-antisymm}
+use Prim.Native.Nat.{ℕ, _≤_, _<_}
+use native.Mathlib.Nat.{le-antisymm}
 use native.Mathlib.Omega.{arith}
 use lib.Dec.{eqb, leb}
 use lib.ListN.{length, getD}
-use borrow.Author.Tests.{eqb-true, leb-true}
-use Rattle.queue.specs.Slots.{firstAt, same}
+use borrow.Author.Tests.{leb-true}
+use Rattle.queue.specs.Slots.{firstAt}
 use Rattle.rules.specs.Sizes.{taskCount, channelCount, testCount, done, beyondRange, notInUse, inUse, badValue, byInterrupt, noneRunning, whileLocked, nothingToTake, notSound}
 use Rattle.rules.specs.Table.{Table, taskOf, semaphoreOf, mutexOf, channelOf, isUsed}
 use Rattle.rules.specs.Decides.{Decides, equals, at-most, itself, fails, both}
@@ -28,6 +27,7 @@ use Rattle.rules.specs.Sound.{isSound}
 use Rattle.rules.specs.Step.{answerTo, forInterrupts, answer, serve, step}
 use Rattle.rules.specs.declared.Call.{Call}
 use Rattle.laws.specs.queues.Put.{pick}
+use Rattle.laws.specs.queues.Neighbours.{found}
 use Rattle.laws.specs.numbers.Presumes.{interrupted, not-not, too-great, no-quantum, wrongly, no-capacity, channel-create-is, locked, runs-locked, answers, accepts}
 use Rattle.laws.specs.numbers.Found.{peer, holding}
 use Rattle.laws.specs.numbers.Numbers.{paperOrder, rank, Thing, countOf, numberOf, usedIn, Creates, aTask, aSemaphore, aMutex, aGroup, aChannel, Deletes, semaphoreDelete, mutexDelete, groupDelete, channelDelete, AsksFor, semaphoreWait, mutexWait, groupWait, channelWait, Aborts, semaphoreAbort, mutexAbort, groupAbort, channelAbort, On, taskDelete, changePriority, suspend, resume, delayResume, toDelete, toAsk, toAbort, semaphorePost, mutexPost, groupPost, channelPost, channelFlush, FindsNothing, counted, held, unmet, noMessage, Gets, Answered}
@@ -107,21 +107,11 @@ record NoLater (interrupt : Bool) (t : Table) (n : ℕ) (c : Call) : Type 0 wher
 no-later : {interrupt : Bool} {t : Table} {n : ℕ} (c : Call) → Soon n (cond (isSound t) (cond (interrupt && not (forInterrupts c)) byInterrupt (answerTo c t)) notSound) → NoLater interrupt t n c
 no-later {interrupt} {t} {n} c s = record { comes = subst (λ (x : ℕ). rank x ≤ rank n) (sym (whole c interrupt t)) (s .soon) }
 
--- A number of the order can be read off it.
-found : (v : ℕ) (l : List ℕ) → firstAt (same v) l < length l → getD l (firstAt (same v) l) 0 ≡ v
-unfolding firstAt
-found v [] h = absurd (not-suc-le-zero h)
-found v (x ∷ xs) h = go (eqb x v) refl h (found v xs)
-  where
-    go : (b : Bool) → eqb x v ≡ b → cond b 0 (suc (firstAt (same v) xs)) < suc (length xs) → (firstAt (same v) xs < length xs → getD xs (firstAt (same v) xs) 0 ≡ v)
-        → getD (x ∷ xs) (cond b 0 (suc (firstAt (same v) xs))) 0 ≡ v
-    go true e h rest = eqb-true x v e
-    go false e h rest = rest (omega arith)
-
 most : rank done < length paperOrder
 unfolding rank paperOrder firstAt
 most = omega arith
 
+-- A number of the order can be read off it.
 unlisted : (n : ℕ) → rank n ≤ rank done → getD paperOrder (rank n) 0 ≡ n
 unfolding rank
 unlisted n l = found n paperOrder (omega (arith, most))

@@ -5,13 +5,14 @@ use mathlib.Core.Bool.{Bool, true, false, cond, not, _&&_}
 use mathlib.Core.List.{List, [], _∷_}
 use Prim.Native.Nat.{ℕ, zero, suc, _+_, _-_, _≤_, _<_}
 use native.Mathlib.Decide.{ℕ-discrete}
+use native.Mathlib.Nat.{not-suc-le-zero}
 use native.Mathlib.Omega.{arith}
 use lib.Dec.{eqb}
-use lib.ListN.{getD}
-use borrow.Author.Tests.{eq-eqb, ne-eqb}
-use Rattle.queue.specs.Slots.{keyOf, firstAt, same}
+use lib.ListN.{length, getD}
+use borrow.Author.Tests.{eqb-true, eq-eqb, ne-eqb, ltb-true}
+use Rattle.queue.specs.Slots.{keyOf, firstAt, same, stands}
 use Rattle.queue.specs.Order.{All, none, more, Le, Ordered, empty, front, one, count, level}
-use Rattle.queue.specs.Stands.{one-same, one-other}
+use Rattle.queue.specs.Stands.{count-stands, one-same}
 use Rattle.rules.specs.Afresh.{lt-or-le}
 
 -- ---- slots
@@ -44,15 +45,24 @@ twice u a zero (x ∷ xs) z h p q = absurd (omega arith)
 twice u zero (suc b) (x ∷ xs) z h p q = omega (arith, ap (one u) p ∙ one-same u, count-at u b xs z q)
 twice u (suc a) (suc b) (x ∷ xs) z h p q = omega (arith, twice u a b xs z (omega arith) p q)
 
+-- The first slot that holds v holds it.
+pub found : (v : ℕ) (l : List ℕ) → firstAt (same v) l < length l → getD l (firstAt (same v) l) 0 ≡ v
+unfolding firstAt
+found v [] h = absurd (not-suc-le-zero h)
+found v (x ∷ xs) h = go (eqb x v) refl h (found v xs)
+  where
+    go : (b : Bool) → eqb x v ≡ b → cond b 0 (suc (firstAt (same v) xs)) < suc (length xs) → (firstAt (same v) xs < length xs → getD xs (firstAt (same v) xs) 0 ≡ v)
+        → getD (x ∷ xs) (cond b 0 (suc (firstAt (same v) xs))) 0 ≡ v
+    go true e h rest = eqb-true x v e
+    go false e h rest = rest (omega arith)
+
 -- An id that is counted stands at its place.
 pub place-at : (v : ℕ) (l : List ℕ) → 1 ≤ count v l → getD l (firstAt (same v) l) 0 ≡ v
-unfolding firstAt count
-place-at v [] h = absurd (omega arith)
-place-at v (x ∷ xs) h = go (ℕ-discrete x v) (λ r. place-at v xs r)
+place-at v l h = go (stands v l) refl
   where
-    go : Dec (x ≡ v) → (1 ≤ count v xs → getD xs (firstAt (same v) xs) 0 ≡ v) → getD (x ∷ xs) (cond (eqb x v) 0 (suc (firstAt (same v) xs))) 0 ≡ v
-    go (yes e) rest = rw (eq-eqb x v e) e
-    go (no d) rest = rw (ne-eqb x v d) (rest (omega (arith, one-other v x d)))
+    go : (b : Bool) → stands v l ≡ b → getD l (firstAt (same v) l) 0 ≡ v
+    go true e = found v l (ltb-true (firstAt (same v) l) (length l) e)
+    go false e = absurd (omega (arith, count-stands v l e))
 
 -- ---- the neighbours of the id in slot `at`, which stands there alone
 

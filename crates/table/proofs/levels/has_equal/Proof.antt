@@ -7,30 +7,29 @@ use Rattle.table.proofs.levels.has_equal.Tie as tie
 
 returns : tie.Need-returns
 returns c =
-    let p = c .before .before .before in
-    let a = p .before .before .args in
-    beside-behind (a .i) _ _ (view (a .s .now)) (p .place-of-able .ensures .0) (c .before .before .get-work .ensures) (sym (c .before .is-at .ensures) ∙ c .if1 .taken)
+    let g = c .before .before in
+    let b = g .before .before in
+    beside-behind (b .args .i) _ _ (view (b .args .s .now)) (b .pre .2) (g .get-work .ensures) (sym (c .before .is-at .ensures) ∙ c .if1 .taken)
 
 returns-2 : tie.Need-returns-2
 returns-2 c =
-    let b = c .before in
-    let p = b .before .before .before in
-    let a = p .before .before .args in
-    beside-front (a .i) _ _ (view (a .s .now)) (p .place-of-able .ensures .0) (b .before .before .get-work .ensures) (sym (b .before .is-at .ensures) ∙ b .if1 .left) (c .if2 .taken)
+    let e = c .before in
+    let g = e .before .before in
+    let b = g .before .before in
+    beside-front (b .args .i) _ _ (view (b .args .s .now)) (b .pre .2) (g .get-work .ensures) (sym (e .before .is-at .ensures) ∙ e .if1 .left) (c .if2 .taken)
 
 returns-3 : tie.Need-returns-3
 returns-3 c =
-    let b = c .before .before in
-    let p = b .before .before .before in
-    let a = p .before .before .args in
+    let e = c .before .before in
+    let g = e .before .before in
+    let b = g .before .before in
     c .is-at2 .ensures
-    ∙ beside-before (a .i) _ _ (view (a .s .now)) (p .place-of-able .ensures .0) (b .before .before .get-work .ensures) (sym (b .before .is-at .ensures) ∙ b .if1 .left) (c .before .if2 .left)
+    ∙ beside-before (b .args .i) _ _ (view (b .args .s .now)) (b .pre .2) (g .get-work .ensures) (sym (e .before .is-at .ensures) ∙ e .if1 .left) (c .before .if2 .left)
 
 pub has-equal-spec : {M : Type 1} → statement M
 has-equal-spec =
     tie.close
     (tie.spec
-    (λ c κs. search needs)
     (λ c κs. search needs)
     (λ c. search needs)
     (λ c κs. search needs)

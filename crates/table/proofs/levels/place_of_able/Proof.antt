@@ -14,8 +14,8 @@ use Rattle.table.proofs.levels.place_of_able.Tie as tie
 returns : tie.Need-returns
 returns c =
     let a = c .before .before .before .args in
-    let e : c .slot-of .result ≡ placeOf (a .i) (queueOf (view (a .s .now)) ableQueue) = c .slot-of .ensures ∙ ap (firstAt (same (a .i + 1))) (queue-lent (a .s .now) ableQueue (omega arith) (omega arith)) in
-    (e, omega (arith, first-most (same (a .i + 1)) (queueOf (view (a .s .now)) ableQueue), view-slots (a .s .now) (omega arith) ableQueue (omega arith)))
+    let e : c .slot-of .result ≡ placeOf (a .id) (queueOf (view (a .s .now)) ableQueue) = c .slot-of .ensures ∙ ap (firstAt (same (a .id + 1))) (queue-lent (a .s .now) ableQueue (omega arith) (omega arith)) in
+    (e, omega (arith, first-most (same (a .id + 1)) (queueOf (view (a .s .now)) ableQueue), view-slots (a .s .now) (omega arith) ableQueue (omega arith)))
 
 pub place-of-able-spec : {M : Type 1} → statement M
 place-of-able-spec =

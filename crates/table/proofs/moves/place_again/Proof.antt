@@ -7,7 +7,7 @@ use Rattle.queue.specs.Slide.{lifted}
 use Rattle.rules.specs.Table.{works, queueOf}
 use Rattle.table.specs.Image.{view}
 use Rattle.table.proofs.Places.{view-works, queue-lent}
-use Rattle.table.specs.Ready.{work-at}
+use Rattle.laws.specs.queues.Put.{work-at}
 use borrow.Author.Needs.{needs}
 use Rattle.table.proofs.moves.place_again.Statement.{statement}
 use Rattle.table.proofs.moves.place_again.Tie as tie

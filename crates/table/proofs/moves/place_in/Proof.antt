@@ -6,7 +6,7 @@ use Rattle.queue.specs.Slots.{placeBehind}
 use Rattle.rules.specs.Table.{works, queueOf}
 use Rattle.table.specs.Image.{view}
 use Rattle.table.proofs.Places.{view-works, queue-lent}
-use Rattle.table.specs.Ready.{work-at}
+use Rattle.laws.specs.queues.Put.{work-at}
 use borrow.Author.Needs.{needs}
 use Rattle.table.proofs.moves.place_in.Statement.{statement}
 use Rattle.table.proofs.moves.place_in.Tie as tie

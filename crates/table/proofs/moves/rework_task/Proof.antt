@@ -1,9 +1,9 @@
-use mathlib.Core.Path.{sym, _∙_}
+use mathlib.Core.Path.{_≡_, sym, _∙_}
 use native.Mathlib.Omega.{arith}
+use Rattle.rules.specs.Table.{taskOf}
 use Rattle.table.specs.Image.{view}
-use Rattle.table.specs.Shape.{view-shaped}
 use Rattle.laws.specs.chains.Graph.{work-same}
-use Rattle.table.proofs.Places.{reworked}
+use Rattle.table.proofs.Places.{rework-there, rework-none}
 use borrow.Author.Needs.{needs}
 use Rattle.table.proofs.moves.rework_task.Statement.{statement}
 use Rattle.table.proofs.moves.rework_task.Tie as tie
@@ -16,13 +16,22 @@ returns c =
 returns-2 : tie.Need-returns-2
 returns-2 c =
     let d = c .before .before in
-    let f = d .before .before .before .before in
-    let g = f .before .before .before .before in
-    let h = g .before .before .before .before in
-    let p = h .before .before in
-    let b = p .before .before in
-    let a = b .before .before .before .before .args in
-    reworked (a .i) (a .p) _ (view (a .s .now)) (omega arith) (view-shaped (a .s .now) (omega arith) .queues) (p .place-of .ensures) (λ e. b .if1 .left (b .before .get-work .ensures ∙ e)) _ _ _ _ (h .drop-there .ensures) (g .set-work .ensures) (f .move-in .ensures) (d .add-in .ensures)
+    let b = d .before .before in
+    let p = b .before in
+    let f = p .before .before in
+    let a = f .before .before .before .before .args in
+    let other : (taskOf (view (a .s .now)) (a .i) .work ≡ a .p → ⊥) = λ e. f .if1 .left (f .before .get-work .ensures ∙ e) in
+    d .set-work .ensures ∙ rework-none (a .i) (a .p) _ (view (a .s .now)) (omega arith) (p .place-of .ensures) other (b .if2 .taken)
+
+returns-3 : tie.Need-returns-3
+returns-3 c =
+    let d = c .before .before in
+    let b = d .before .before in
+    let p = b .before in
+    let f = p .before .before in
+    let a = f .before .before .before .before .args in
+    let other : (taskOf (view (a .s .now)) (a .i) .work ≡ a .p → ⊥) = λ e. f .if1 .left (f .before .get-work .ensures ∙ e) in
+    d .rework-in .ensures ∙ rework-there (a .i) (a .p) _ (view (a .s .now)) (omega arith) (p .place-of .ensures) other (b .if2 .left)
 
 pub rework-task-spec : {M : Type 1} → statement M
 rework-task-spec =
@@ -33,8 +42,8 @@ rework-task-spec =
     returns
     (λ c κs. search needs)
     (λ c κs. search needs)
-    (λ c κs. search needs)
-    (λ c κs. search needs)
+    (λ c. search needs)
+    returns-2
     (λ c κs. search needs)
     (λ c. search needs)
-    returns-2)
+    returns-3)
