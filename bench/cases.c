@@ -274,8 +274,8 @@ static void build_chain(int others, uint32_t limit)
     unsigned i;
 
     build_links(limit);
-    for (i = 0; others && i < 15; i++) { /* each stands before a link, until something more urgent comes along */
-        make(NTK_TASK_CREATE, 17 + i, 40, 0);
+    for (i = 15; others && i-- > 0;) { /* each stands before a link, until something more urgent comes along */
+        make(NTK_TASK_CREATE, 17 + i, 26 + i, 0);
         make(NTK_MUTEX_WAIT, i, 1, limit);
     }
     for (i = 0; !others && i < 15; i++) {
@@ -318,6 +318,9 @@ static void build_ring(void)
         make(NTK_TASK_CREATE, i == 0 ? 0 : 16 + i, 40 - i, 0);
         make(NTK_MUTEX_WAIT, 15, 1, 1);
     }
+    /* One of the ring waits there too, raised before each who came; as it rises and falls with the first of them, it goes behind that. */
+    make(NTK_CHANGE_PRIORITY, 31, 5, 0);
+    make(NTK_CHANGE_PRIORITY, 31, 25, 0);
     bad_case("16 waiters behind a ring of 16, forced", NTK_MUTEX_DELETE, 15, 1, 0);
     bad_case("16 waiters behind a ring of 16 time out", NTK_TICK, 0, 0, 0);
     bad_case("16 waiters behind a ring of 16", NTK_MUTEX_ABORT, 15, 0, 0);

@@ -61,8 +61,8 @@ static inline void leave(struct plain *k, unsigned i)
     k->next[i] = k->prev[i] = (uint8_t)i;
 }
 
-/* Task i joins the able ones, behind those of its level. */
-static inline void join_able(struct plain *k, unsigned i)
+/* The head of the level that task i comes to, with its bit set. */
+static inline unsigned entered_level(struct plain *k, unsigned i)
 {
     unsigned head = head_of(k->work[i]);
 
@@ -70,7 +70,13 @@ static inline void join_able(struct plain *k, unsigned i)
         k->ready |= bit_of(head);
         k->next[head] = k->prev[head] = (uint8_t)head;
     }
-    insert_behind(k, k->prev[head], i);
+    return head;
+}
+
+/* Task i joins the able ones, behind those of its level. */
+static inline void join_able(struct plain *k, unsigned i)
+{
+    insert_behind(k, k->prev[entered_level(k, i)], i);
 }
 
 /* Task i leaves the able ones. */
@@ -87,7 +93,8 @@ static inline unsigned first_able(const struct plain *k)
     return k->next[head_of((unsigned)__builtin_clzll(k->ready | 1))];
 }
 
-/* Task i, wherever it stands, works at p from now on, another priority than before, and goes behind its equals there. */
+/* Task i, wherever it stands, works at p from now on, another priority than before: raised it goes before its equals there, lowered behind
+ * them. Of the waiters beside it only those are looked at that it passes. */
 static void set_work(struct plain *k, unsigned i, uint8_t p)
 {
     unsigned before = k->prev[i], after = k->next[i];
@@ -96,15 +103,18 @@ static void set_work(struct plain *k, unsigned i, uint8_t p)
     k->work[i] = p;
     if (k->task[i].state == PLAIN_PLAIN) {
         if (after != i) {
+            unsigned head;
+
             leave_able(k, i);
-            join_able(k, i);
+            head = entered_level(k, i);
+            insert_behind(k, p < old ? head : k->prev[head], i);
         }
     } else if (p < old) {
-        if (k->work[before] <= p) /* it is there, or in no queue */
+        if (before >= PLAIN_TASKS || k->work[before] < p || before == i) /* it is there, or in no queue */
             return;
         do
             before = k->prev[before];
-        while (k->work[before] > p);
+        while (before < PLAIN_TASKS && k->work[before] >= p);
         leave(k, i);
         insert_behind(k, before, i);
     } else {
@@ -124,11 +134,12 @@ static inline int has_peer(const struct plain *k, unsigned i)
     return k->next[i] < PLAIN_TASKS;
 }
 
-/* The first able task, i, which has an equal, goes behind its equals. */
-static inline void rotate(struct plain *k, unsigned i)
+/* The turn of the first able task, i, which has an equal, ends: it goes behind its equals, with its whole quantum again. */
+static inline void end_turn(struct plain *k, unsigned i)
 {
     leave(k, i);
     insert_behind(k, k->prev[head_of(k->work[i])], i);
+    k->task[i].left = k->task[i].quantum;
 }
 
 /* Priorities */
@@ -157,8 +168,27 @@ static inline uint8_t with_waiters(const struct plain *k, unsigned i, uint8_t p,
     return p;
 }
 
+/* What task i, on no ring, has to work at. */
+static inline uint8_t work_off_rings(const struct plain *k, unsigned i)
+{
+    return with_waiters(k, i, k->task[i].base, 0);
+}
+
+/* The ring of waits that task i is on. */
+static inline uint32_t ring_of(const struct plain *k, unsigned i)
+{
+    uint32_t ring = 0;
+    unsigned at = i;
+
+    do {
+        ring |= UINT32_C(1) << at;
+        at = holder_before(k, at);
+    } while (at != i);
+    return ring;
+}
+
 /* The most urgent that the members of a ring of waits may work at together. */
-static uint8_t work_of_ring(const struct plain *k, uint32_t ring)
+static inline uint8_t work_of_ring(const struct plain *k, uint32_t ring)
 {
     uint32_t rest;
     uint8_t p = UINT8_MAX;
@@ -185,7 +215,7 @@ static void raise_chain(struct plain *k, unsigned i, uint8_t p)
  * priority up that nothing outside supports any more. Where one task's priority stays, those further on stay. */
 static void lower_chain(struct plain *k, unsigned i)
 {
-    uint32_t seen = 0, ring = 0;
+    uint32_t seen = 0;
     unsigned at, entry;
     uint8_t p;
 
@@ -193,18 +223,14 @@ static void lower_chain(struct plain *k, unsigned i)
         seen |= UINT32_C(1) << at;
     entry = at;
     for (; i != entry; i = holder_before(k, i)) {
-        p = with_waiters(k, i, k->task[i].base, 0);
+        p = work_off_rings(k, i);
         if (p == k->work[i])
             return;
         set_work(k, i, p);
     }
     if (entry == PLAIN_NONE)
         return;
-    do {
-        ring |= UINT32_C(1) << i;
-        i = holder_before(k, i);
-    } while (i != entry);
-    p = work_of_ring(k, ring);
+    p = work_of_ring(k, ring_of(k, entry));
     if (p == k->work[i])
         return;
     do {
@@ -232,6 +258,13 @@ static inline void become_plain(struct plain *k, unsigned i, uint8_t outcome)
     k->marked &= ~(UINT32_C(1) << i);
     t->outcome = outcome;
     join_if_able(k, i);
+}
+
+/* What task i, a waiter, waits for comes to it. */
+static inline void give(struct plain *k, unsigned i)
+{
+    leave(k, i);
+    become_plain(k, i, NTK_GIVEN);
 }
 
 static inline void want_nothing(struct plain *k, unsigned i)
@@ -267,17 +300,125 @@ static inline void set_mark(struct plain *k, unsigned i, uint32_t ticks)
     k->marked |= UINT32_C(1) << i;
 }
 
-/* Task i, which runs, waits from now on. */
-static inline void block(struct plain *k, unsigned i, enum plain_state state, unsigned object, unsigned head, uint32_t limit)
+/* What a call on task a is refused with where there is no such task. */
+static inline unsigned task_answer(const struct plain *k, uint32_t a)
 {
-    struct plain_task *t = &k->task[i];
+    if (a >= PLAIN_TASKS)
+        return NTK_BEYOND_RANGE;
+    return k->task[a].used ? NTK_DONE : NTK_NOT_IN_USE;
+}
 
+/* The same of a call by which task a is able no longer: while locked it may not be the one that runs. */
+static inline unsigned stop_answer(const struct plain *k, uint32_t a)
+{
+    unsigned answer = task_answer(k, a);
+
+    return answer == NTK_DONE && k->depth > 0 && k->running == a ? NTK_WHILE_LOCKED : answer;
+}
+
+/* Objects: a family is named by the state of who waits for one of it. The steps are inline, so that in each call the family is a constant. */
+
+static inline unsigned object_count(enum plain_state family)
+{
+    return family == PLAIN_WAITS_FLAGS ? PLAIN_GROUPS : PLAIN_OBJECTS;
+}
+
+/* The head of the waiters for object a. */
+static inline unsigned object_head(unsigned family, unsigned a)
+{
+    return 16 * family + a;
+}
+
+static inline int is_object_used(const struct plain *k, enum plain_state family, uint32_t a)
+{
+    switch (family) {
+    case PLAIN_WAITS_SEMAPHORE:
+        return k->semaphore[a].used != 0;
+    case PLAIN_WAITS_MUTEX:
+        return k->mutex[a].used != 0;
+    case PLAIN_WAITS_FLAGS:
+        return k->group[a].used != 0;
+    default:
+        return k->channel.used[a] != 0;
+    }
+}
+
+/* What the creation of object a is refused with. */
+static inline unsigned create_answer(const struct plain *k, enum plain_state family, uint32_t a)
+{
+    if (a >= object_count(family))
+        return NTK_BEYOND_RANGE;
+    return is_object_used(k, family, a) ? NTK_IN_USE : NTK_DONE;
+}
+
+/* What any other call on object a is refused with where there is no such object. */
+static inline unsigned object_answer(const struct plain *k, enum plain_state family, uint32_t a)
+{
+    if (a >= object_count(family))
+        return NTK_BEYOND_RANGE;
+    return is_object_used(k, family, a) ? NTK_DONE : NTK_NOT_IN_USE;
+}
+
+/* All of a delete but the record of the object, which is the caller's to clear where the answer is NTK_DONE. */
+static inline unsigned object_delete(struct plain *k, enum plain_state family, uint32_t a, uint32_t force)
+{
+    unsigned answer = object_answer(k, family, a), head = object_head(family, a);
+
+    if (answer != NTK_DONE)
+        return answer;
+    if (force > 1)
+        return NTK_BAD_VALUE;
+    if (!force && k->next[head] != head)
+        return NTK_STILL_NEEDED;
+    while (k->next[head] != head)
+        end_wait(k, k->next[head], NTK_DELETED);
+    return NTK_DONE;
+}
+
+static inline unsigned object_abort(struct plain *k, enum plain_state family, uint32_t a)
+{
+    unsigned answer = object_answer(k, family, a), head = object_head(family, a);
+
+    if (answer != NTK_DONE)
+        return answer;
+    if (k->next[head] == head)
+        return NTK_NO_WAITER;
+    end_wait(k, k->next[head], NTK_ABORTED);
+    return NTK_DONE;
+}
+
+/* What a wait for object a is refused with, whatever there is to take. */
+static inline unsigned wait_answer(const struct plain *k, enum plain_state family, uint32_t a, uint32_t may_block)
+{
+    unsigned answer;
+
+    if (k->running == PLAIN_NONE)
+        return NTK_NONE_RUNNING;
+    answer = object_answer(k, family, a);
+    return answer == NTK_DONE && may_block > 1 ? NTK_BAD_VALUE : answer;
+}
+
+/* Task i, which runs, takes what it would wait for. */
+static inline unsigned take_at_once(struct plain *k, unsigned i)
+{
+    k->task[i].outcome = NTK_GIVEN;
+    return NTK_DONE;
+}
+
+/* Task i, which runs, finds nothing to take. */
+static inline unsigned wait_on(struct plain *k, unsigned i, enum plain_state family, uint32_t a, uint32_t may_block, uint32_t limit)
+{
+    if (!may_block)
+        return NTK_NOTHING_TO_TAKE;
+    if (k->depth > 0)
+        return NTK_WHILE_LOCKED;
     leave_able(k, i);
-    t->state = (uint8_t)state;
-    t->object = (uint8_t)object;
+    k->task[i].state = (uint8_t)family;
+    k->task[i].object = (uint8_t)a;
     if (limit != 0)
         set_mark(k, i, limit);
-    join(k, head, i);
+    join(k, object_head(family, a), i);
+    return NTK_BLOCKS;
 }
 
 /* The calls: each gives back its answer. */
@@ -303,16 +444,12 @@ static unsigned task_create(struct plain *k, uint32_t a, uint32_t b, uint32_t c)
 
 static unsigned task_delete(struct plain *k, uint32_t a)
 {
+    unsigned answer = stop_answer(k, a), h;
     struct plain_task *t;
-    unsigned h;
 
-    if (a >= PLAIN_TASKS)
-        return NTK_BEYOND_RANGE;
+    if (answer != NTK_DONE)
+        return answer;
     t = &k->task[a];
-    if (!t->used)
-        return NTK_NOT_IN_USE;
-    if (k->depth > 0 && k->running == a)
-        return NTK_WHILE_LOCKED;
     if (t->held)
         return NTK_STILL_NEEDED;
     h = holder_before(k, a);
@@ -334,18 +471,15 @@ static unsigned task_delete(struct plain *k, uint32_t a)
 
 static unsigned change_priority(struct plain *k, uint32_t a, uint32_t b)
 {
-    struct plain_task *t;
+    unsigned answer = task_answer(k, a);
     uint8_t old;
 
-    if (a >= PLAIN_TASKS)
-        return NTK_BEYOND_RANGE;
-    t = &k->task[a];
-    if (!t->used)
-        return NTK_NOT_IN_USE;
+    if (answer != NTK_DONE)
+        return answer;
     if (b > 62)
         return NTK_BAD_VALUE;
-    old = t->base;
-    t->base = (uint8_t)b;
+    old = k->task[a].base;
+    k->task[a].base = (uint8_t)b;
     if (b < old)
         raise_chain(k, a, (uint8_t)b);
     else if (b > old && k->work[a] == old)
@@ -355,35 +489,27 @@ static unsigned change_priority(struct plain *k, uint32_t a, uint32_t b)
 
 static unsigned suspend(struct plain *k, uint32_t a)
 {
-    struct plain_task *t;
+    unsigned answer = stop_answer(k, a);
 
-    if (a >= PLAIN_TASKS)
-        return NTK_BEYOND_RANGE;
-    t = &k->task[a];
-    if (!t->used)
-        return NTK_NOT_IN_USE;
-    if (k->depth > 0 && k->running == a)
-        return NTK_WHILE_LOCKED;
-    if (t->suspended == 250)
+    if (answer != NTK_DONE)
+        return answer;
+    if (k->task[a].suspended == 250)
         return NTK_TOO_DEEP;
-    if (t->suspended++ == 0 && t->state == PLAIN_PLAIN)
+    if (k->task[a].suspended++ == 0 && k->task[a].state == PLAIN_PLAIN)
         leave_able(k, a);
     return NTK_DONE;
 }
 
 static unsigned resume(struct plain *k, uint32_t a)
 {
-    struct plain_task *t;
+    unsigned answer = task_answer(k, a);
 
-    if (a >= PLAIN_TASKS)
-        return NTK_BEYOND_RANGE;
-    t = &k->task[a];
-    if (!t->used)
-        return NTK_NOT_IN_USE;
-    if (t->suspended == 0)
+    if (answer != NTK_DONE)
+        return answer;
+    if (k->task[a].suspended == 0)
         return NTK_NOT_SUSPENDED;
-    t->suspended--;
-    if (t->state == PLAIN_PLAIN)
+    k->task[a].suspended--;
+    if (k->task[a].state == PLAIN_PLAIN)
         join_if_able(k, a);
     return NTK_DONE;
 }
@@ -398,8 +524,7 @@ static unsigned yield(struct plain *k)
         return NTK_WHILE_LOCKED;
     if (!has_peer(k, i))
         return NTK_NO_PEER;
-    rotate(k, i);
-    k->task[i].left = k->task[i].quantum;
+    end_turn(k, i);
     return NTK_DONE;
 }
 
@@ -421,10 +546,10 @@ static unsigned delay(struct plain *k, uint32_t a)
 
 static unsigned delay_resume(struct plain *k, uint32_t a)
 {
-    if (a >= PLAIN_TASKS)
-        return NTK_BEYOND_RANGE;
-    if (!k->task[a].used)
-        return NTK_NOT_IN_USE;
+    unsigned answer = task_answer(k, a);
+
+    if (answer != NTK_DONE)
+        return answer;
     if (k->task[a].state != PLAIN_DELAYED)
         return NTK_NOT_DELAYED;
     become_plain(k, a, NTK_GIVEN);
@@ -465,10 +590,8 @@ static unsigned tick(struct plain *k)
         struct plain_task *t = &k->task[i];
         if (t->left > 0)
             t->left--;
-        if (t->left == 0 && k->depth == 0 && has_peer(k, i)) {
-            rotate(k, i);
-            t->left = t->quantum;
-        }
+        if (t->left == 0 && k->depth == 0 && has_peer(k, i))
+            end_turn(k, i);
     }
     for (rest = k->marked; rest; rest &= rest - 1) {
         i = (unsigned)__builtin_ctz(rest);
@@ -480,77 +603,42 @@ static unsigned tick(struct plain *k)
 
 static unsigned semaphore_create(struct plain *k, uint32_t a, uint32_t b)
 {
-    if (a >= PLAIN_OBJECTS)
-        return NTK_BEYOND_RANGE;
-    if (k->semaphore[a].used)
-        return NTK_IN_USE;
-    k->semaphore[a].used = 1;
-    k->semaphore[a].count = b;
-    return NTK_DONE;
-}
+    unsigned answer = create_answer(k, PLAIN_WAITS_SEMAPHORE, a);
 
-static inline unsigned delete_answer(struct plain *k, unsigned head, uint32_t force)
-{
-    if (force > 1)
-        return NTK_BAD_VALUE;
-    return !force && k->next[head] != head ? NTK_STILL_NEEDED : NTK_DONE;
+    if (answer == NTK_DONE)
+        k->semaphore[a] = (struct plain_semaphore){1, b};
+    return answer;
 }
 
 static unsigned semaphore_delete(struct plain *k, uint32_t a, uint32_t b)
 {
-    unsigned head = PLAIN_SEMAPHORE + a, answer;
+    unsigned answer = object_delete(k, PLAIN_WAITS_SEMAPHORE, a, b);
 
-    if (a >= PLAIN_OBJECTS)
-        return NTK_BEYOND_RANGE;
-    if (!k->semaphore[a].used)
-        return NTK_NOT_IN_USE;
-    answer = delete_answer(k, head, b);
-    if (answer != NTK_DONE)
-        return answer;
-    while (k->next[head] != head)
-        end_wait(k, k->next[head], NTK_DELETED);
-    k->semaphore[a].used = 0;
-    k->semaphore[a].count = 0;
-    return NTK_DONE;
+    if (answer == NTK_DONE)
+        k->semaphore[a] = (struct plain_semaphore){0, 0};
+    return answer;
 }
 
 static unsigned semaphore_wait(struct plain *k, uint32_t a, uint32_t b, uint32_t c)
 {
-    unsigned i = k->running;
+    unsigned i = k->running, answer = wait_answer(k, PLAIN_WAITS_SEMAPHORE, a, b);
 
-    if (i == PLAIN_NONE)
-        return NTK_NONE_RUNNING;
-    if (a >= PLAIN_OBJECTS)
-        return NTK_BEYOND_RANGE;
-    if (!k->semaphore[a].used)
-        return NTK_NOT_IN_USE;
-    if (b > 1)
-        return NTK_BAD_VALUE;
-    if (k->semaphore[a].count > 0) {
-        k->semaphore[a].count--;
-        k->task[i].outcome = NTK_GIVEN;
-        return NTK_DONE;
-    }
-    if (!b)
-        return NTK_NOTHING_TO_TAKE;
-    if (k->depth > 0)
-        return NTK_WHILE_LOCKED;
-    block(k, i, PLAIN_WAITS_SEMAPHORE, a, PLAIN_SEMAPHORE + a, c);
-    return NTK_BLOCKS;
+    if (answer != NTK_DONE)
+        return answer;
+    if (k->semaphore[a].count == 0)
+        return wait_on(k, i, PLAIN_WAITS_SEMAPHORE, a, b, c);
+    k->semaphore[a].count--;
+    return take_at_once(k, i);
 }
 
 static unsigned semaphore_post(struct plain *k, uint32_t a)
 {
-    unsigned head = PLAIN_SEMAPHORE + a, first;
+    unsigned answer = object_answer(k, PLAIN_WAITS_SEMAPHORE, a), head = object_head(PLAIN_WAITS_SEMAPHORE, a);
 
-    if (a >= PLAIN_OBJECTS)
-        return NTK_BEYOND_RANGE;
-    if (!k->semaphore[a].used)
-        return NTK_NOT_IN_USE;
-    first = k->next[head];
-    if (first != head) {
-        leave(k, first);
-        become_plain(k, first, NTK_GIVEN);
+    if (answer != NTK_DONE)
+        return answer;
+    if (k->next[head] != head) {
+        give(k, k->next[head]);
         return NTK_DONE;
     }
     if (k->semaphore[a].count == UINT32_MAX)
@@ -559,31 +647,12 @@ static unsigned semaphore_post(struct plain *k, uint32_t a)
     return NTK_DONE;
 }
 
-static inline unsigned abort_first(struct plain *k, unsigned head)
-{
-    unsigned first = k->next[head];
-
-    if (first == head)
-        return NTK_NO_WAITER;
-    end_wait(k, first, NTK_ABORTED);
-    return NTK_DONE;
-}
-
-static unsigned semaphore_abort(struct plain *k, uint32_t a)
-{
-    if (a >= PLAIN_OBJECTS)
-        return NTK_BEYOND_RANGE;
-    if (!k->semaphore[a].used)
-        return NTK_NOT_IN_USE;
-    return abort_first(k, PLAIN_SEMAPHORE + a);
-}
-
 static unsigned mutex_create(struct plain *k, uint32_t a)
 {
-    if (a >= PLAIN_OBJECTS)
-        return NTK_BEYOND_RANGE;
-    if (k->mutex[a].used)
-        return NTK_IN_USE;
+    unsigned answer = create_answer(k, PLAIN_WAITS_MUTEX, a);
+
+    if (answer != NTK_DONE)
+        return answer;
     k->mutex[a].used = 1;
     k->mutex[a].holder = PLAIN_NONE;
     return NTK_DONE;
@@ -591,19 +660,12 @@ static unsigned mutex_create(struct plain *k, uint32_t a)
 
 static unsigned mutex_delete(struct plain *k, uint32_t a, uint32_t b)
 {
-    unsigned head = PLAIN_MUTEX + a, answer;
+    unsigned answer = object_delete(k, PLAIN_WAITS_MUTEX, a, b);
     struct plain_mutex *m;
 
-    if (a >= PLAIN_OBJECTS)
-        return NTK_BEYOND_RANGE;
-    m = &k->mutex[a];
-    if (!m->used)
-        return NTK_NOT_IN_USE;
-    answer = delete_answer(k, head, b);
     if (answer != NTK_DONE)
         return answer;
-    while (k->next[head] != head)
-        end_wait(k, k->next[head], NTK_DELETED);
+    m = &k->mutex[a];
     if (m->holder != PLAIN_NONE)
         k->task[m->holder].held &= (uint16_t)~(1u << a);
     m->used = m->holder = m->nesting = 0;
@@ -619,51 +681,39 @@ static inline void take(struct plain *k, unsigned m, unsigned i)
 
 static unsigned mutex_wait(struct plain *k, uint32_t a, uint32_t b, uint32_t c)
 {
-    unsigned i = k->running;
+    unsigned i = k->running, answer = wait_answer(k, PLAIN_WAITS_MUTEX, a, b);
     struct plain_mutex *m;
 
-    if (i == PLAIN_NONE)
-        return NTK_NONE_RUNNING;
-    if (a >= PLAIN_OBJECTS)
-        return NTK_BEYOND_RANGE;
+    if (answer != NTK_DONE)
+        return answer;
     m = &k->mutex[a];
-    if (!m->used)
-        return NTK_NOT_IN_USE;
-    if (b > 1)
-        return NTK_BAD_VALUE;
     if (m->holder == PLAIN_NONE) {
         take(k, a, i);
-        k->task[i].outcome = NTK_GIVEN;
-        return NTK_DONE;
+        return take_at_once(k, i);
     }
     if (m->holder == i) {
         if (m->nesting == 250)
             return NTK_TOO_DEEP;
         m->nesting++;
-        k->task[i].outcome = NTK_GIVEN;
-        return NTK_DONE;
+        return take_at_once(k, i);
     }
-    if (!b)
-        return NTK_NOTHING_TO_TAKE;
-    if (k->depth > 0)
-        return NTK_WHILE_LOCKED;
-    block(k, i, PLAIN_WAITS_MUTEX, a, PLAIN_MUTEX + a, c);
-    raise_chain(k, m->holder, k->work[i]);
-    return NTK_BLOCKS;
+    answer = wait_on(k, i, PLAIN_WAITS_MUTEX, a, b, c);
+    if (answer == NTK_BLOCKS)
+        raise_chain(k, m->holder, k->work[i]);
+    return answer;
 }
 
 static unsigned mutex_post(struct plain *k, uint32_t a)
 {
-    unsigned i = k->running, head = PLAIN_MUTEX + a, first;
+    unsigned i = k->running, head = object_head(PLAIN_WAITS_MUTEX, a), answer, first;
     struct plain_mutex *m;
 
     if (i == PLAIN_NONE)
         return NTK_NONE_RUNNING;
-    if (a >= PLAIN_OBJECTS)
-        return NTK_BEYOND_RANGE;
+    answer = object_answer(k, PLAIN_WAITS_MUTEX, a);
+    if (answer != NTK_DONE)
+        return answer;
     m = &k->mutex[a];
-    if (!m->used)
-        return NTK_NOT_IN_USE;
     if (m->holder != i)
         return NTK_NOT_ITS_HOLDER;
     if (--m->nesting > 0)
@@ -675,52 +725,31 @@ static unsigned mutex_post(struct plain *k, uint32_t a)
         return NTK_DONE;
     }
     if (k->work[first] == k->work[i]) { /* else the releaser owes nothing to it; it waits for nothing */
-        uint8_t p = with_waiters(k, i, k->task[i].base, 0);
+        uint8_t p = work_off_rings(k, i);
         if (p != k->work[i])
             set_work(k, i, p);
     }
-    leave(k, first);
     take(k, a, first);
-    become_plain(k, first, NTK_GIVEN);
+    give(k, first);
     return NTK_DONE;
-}
-
-static unsigned mutex_abort(struct plain *k, uint32_t a)
-{
-    if (a >= PLAIN_OBJECTS)
-        return NTK_BEYOND_RANGE;
-    if (!k->mutex[a].used)
-        return NTK_NOT_IN_USE;
-    return abort_first(k, PLAIN_MUTEX + a);
 }
 
 static unsigned group_create(struct plain *k, uint32_t a, uint32_t b)
 {
-    if (a >= PLAIN_GROUPS)
-        return NTK_BEYOND_RANGE;
-    if (k->group[a].used)
-        return NTK_IN_USE;
-    k->group[a].used = 1;
-    k->group[a].flags = b;
-    return NTK_DONE;
+    unsigned answer = create_answer(k, PLAIN_WAITS_FLAGS, a);
+
+    if (answer == NTK_DONE)
+        k->group[a] = (struct plain_group){1, b};
+    return answer;
 }
 
 static unsigned group_delete(struct plain *k, uint32_t a, uint32_t b)
 {
-    unsigned head = PLAIN_GROUP + a, answer;
+    unsigned answer = object_delete(k, PLAIN_WAITS_FLAGS, a, b);
 
-    if (a >= PLAIN_GROUPS)
-        return NTK_BEYOND_RANGE;
-    if (!k->group[a].used)
-        return NTK_NOT_IN_USE;
-    answer = delete_answer(k, head, b);
-    if (answer != NTK_DONE)
-        return answer;
-    while (k->next[head] != head)
-        end_wait(k, k->next[head], NTK_DELETED);
-    k->group[a].used = 0;
-    k->group[a].flags = 0;
-    return NTK_DONE;
+    if (answer == NTK_DONE)
+        k->group[a] = (struct plain_group){0, 0};
+    return answer;
 }
 
 /* The flags of the mask that are as the test wants them: the second bit of a test wants them clear, the first is for any of them. */
@@ -736,47 +765,33 @@ static inline int is_met(uint32_t right, uint32_t mask, uint32_t test)
 
 static unsigned group_wait(struct plain *k, uint32_t a, uint32_t b, uint32_t c, uint32_t mask, uint32_t test, uint32_t consume)
 {
-    unsigned i = k->running;
-    struct plain_wanted *w;
+    unsigned i = k->running, answer = wait_answer(k, PLAIN_WAITS_FLAGS, a, b);
     uint32_t right;
 
-    if (i == PLAIN_NONE)
-        return NTK_NONE_RUNNING;
-    if (a >= PLAIN_GROUPS)
-        return NTK_BEYOND_RANGE;
-    if (!k->group[a].used)
-        return NTK_NOT_IN_USE;
-    if (b > 1 || mask == 0 || test > 3 || consume > 1)
+    if (answer != NTK_DONE)
+        return answer;
+    if (mask == 0 || test > 3 || consume > 1)
         return NTK_BAD_VALUE;
     right = right_flags(k->group[a].flags, mask, test);
     if (is_met(right, mask, test)) {
         if (consume)
             k->group[a].flags ^= right;
-        k->task[i].outcome = NTK_GIVEN;
-        return NTK_DONE;
+        return take_at_once(k, i);
     }
-    if (!b)
-        return NTK_NOTHING_TO_TAKE;
-    if (k->depth > 0)
-        return NTK_WHILE_LOCKED;
-    w = &k->wanted[i];
-    w->mask = mask;
-    w->test = (uint16_t)test;
-    w->consume = (uint16_t)consume;
-    block(k, i, PLAIN_WAITS_FLAGS, a, PLAIN_GROUP + a, c);
-    return NTK_BLOCKS;
+    answer = wait_on(k, i, PLAIN_WAITS_FLAGS, a, b, c);
+    if (answer == NTK_BLOCKS)
+        k->wanted[i] = (struct plain_wanted){mask, (uint16_t)test, (uint16_t)consume};
+    return answer;
 }
 
 /* Waiters are tested against the flags as the post leaves them; what they consume is turned over afterwards, each flag once. */
 static unsigned group_post(struct plain *k, uint32_t a, uint32_t mask, uint32_t on)
 {
-    unsigned head = PLAIN_GROUP + a, i, after;
+    unsigned answer = object_answer(k, PLAIN_WAITS_FLAGS, a), head = object_head(PLAIN_WAITS_FLAGS, a), i, after;
     uint32_t flags, consumed = 0;
 
-    if (a >= PLAIN_GROUPS)
-        return NTK_BEYOND_RANGE;
-    if (!k->group[a].used)
-        return NTK_NOT_IN_USE;
+    if (answer != NTK_DONE)
+        return answer;
     if (mask == 0 || on > 1)
         return NTK_BAD_VALUE;
     flags = on ? k->group[a].flags | mask : k->group[a].flags & ~mask;
@@ -789,29 +804,19 @@ static unsigned group_post(struct plain *k, uint32_t a, uint32_t mask, uint32_t 
             continue;
         if (w->consume)
             consumed |= right;
-        leave(k, i);
         want_nothing(k, i);
-        become_plain(k, i, NTK_GIVEN);
+        give(k, i);
     }
     k->group[a].flags = flags ^ consumed;
     return NTK_DONE;
 }
 
-static unsigned group_abort(struct plain *k, uint32_t a)
-{
-    if (a >= PLAIN_GROUPS)
-        return NTK_BEYOND_RANGE;
-    if (!k->group[a].used)
-        return NTK_NOT_IN_USE;
-    return abort_first(k, PLAIN_GROUP + a);
-}
-
 static unsigned channel_create(struct plain *k, uint32_t a, uint32_t b)
 {
-    if (a >= PLAIN_OBJECTS)
-        return NTK_BEYOND_RANGE;
-    if (k->channel.used[a])
-        return NTK_IN_USE;
+    unsigned answer = create_answer(k, PLAIN_WAITS_MESSAGE, a);
+
+    if (answer != NTK_DONE)
+        return answer;
     if (b == 0 || b > PLAIN_MESSAGES)
         return NTK_BAD_VALUE;
     k->channel.used[a] = 1;
@@ -864,17 +869,10 @@ static inline unsigned empty_channel(struct plain *k, unsigned a)
 
 static unsigned channel_delete(struct plain *k, uint32_t a, uint32_t b)
 {
-    unsigned head = PLAIN_CHANNEL + a, answer;
+    unsigned answer = object_delete(k, PLAIN_WAITS_MESSAGE, a, b);
 
-    if (a >= PLAIN_OBJECTS)
-        return NTK_BEYOND_RANGE;
-    if (!k->channel.used[a])
-        return NTK_NOT_IN_USE;
-    answer = delete_answer(k, head, b);
     if (answer != NTK_DONE)
         return answer;
-    while (k->next[head] != head)
-        end_wait(k, k->next[head], NTK_DELETED);
     empty_channel(k, a);
     k->channel.used[a] = 0;
     k->channel.capacity[a] = 0;
@@ -883,37 +881,22 @@ static unsigned channel_delete(struct plain *k, uint32_t a, uint32_t b)
 
 static unsigned channel_wait(struct plain *k, uint32_t a, uint32_t b, uint32_t c)
 {
-    unsigned i = k->running;
+    unsigned i = k->running, answer = wait_answer(k, PLAIN_WAITS_MESSAGE, a, b);
 
-    if (i == PLAIN_NONE)
-        return NTK_NONE_RUNNING;
-    if (a >= PLAIN_OBJECTS)
-        return NTK_BEYOND_RANGE;
-    if (!k->channel.used[a])
-        return NTK_NOT_IN_USE;
-    if (b > 1)
-        return NTK_BAD_VALUE;
-    if (k->channel.held[a] > 0) {
-        k->message[i] = take_first(k, a);
-        k->task[i].outcome = NTK_GIVEN;
-        return NTK_DONE;
-    }
-    if (!b)
-        return NTK_NOTHING_TO_TAKE;
-    if (k->depth > 0)
-        return NTK_WHILE_LOCKED;
-    block(k, i, PLAIN_WAITS_MESSAGE, a, PLAIN_CHANNEL + a, c);
-    return NTK_BLOCKS;
+    if (answer != NTK_DONE)
+        return answer;
+    if (k->channel.held[a] == 0)
+        return wait_on(k, i, PLAIN_WAITS_MESSAGE, a, b, c);
+    k->message[i] = take_first(k, a);
+    return take_at_once(k, i);
 }
 
 static unsigned channel_post(struct plain *k, uint32_t a, uint32_t message, uint32_t front)
 {
-    unsigned head = PLAIN_CHANNEL + a, first;
+    unsigned answer = object_answer(k, PLAIN_WAITS_MESSAGE, a), head = object_head(PLAIN_WAITS_MESSAGE, a), first;
 
-    if (a >= PLAIN_OBJECTS)
-        return NTK_BEYOND_RANGE;
-    if (!k->channel.used[a])
-        return NTK_NOT_IN_USE;
+    if (answer != NTK_DONE)
+        return answer;
     if (front > 1)
         return NTK_BAD_VALUE;
     if (k->channel.held[a] >= k->channel.capacity[a])
@@ -921,8 +904,7 @@ static unsigned channel_post(struct plain *k, uint32_t a, uint32_t message, uint
     first = k->next[head];
     if (first != head) {
         k->message[first] = message;
-        leave(k, first);
-        become_plain(k, first, NTK_GIVEN);
+        give(k, first);
         return NTK_DONE;
     }
     if (front)
@@ -932,23 +914,12 @@ static unsigned channel_post(struct plain *k, uint32_t a, uint32_t message, uint
     return NTK_DONE;
 }
 
-static unsigned channel_abort(struct plain *k, uint32_t a)
-{
-    if (a >= PLAIN_OBJECTS)
-        return NTK_BEYOND_RANGE;
-    if (!k->channel.used[a])
-        return NTK_NOT_IN_USE;
-    return abort_first(k, PLAIN_CHANNEL + a);
-}
-
 /* How many messages went stands in the second byte of what it gives back. */
 static unsigned channel_flush(struct plain *k, uint32_t a)
 {
-    if (a >= PLAIN_OBJECTS)
-        return NTK_BEYOND_RANGE;
-    if (!k->channel.used[a])
-        return NTK_NOT_IN_USE;
-    return NTK_DONE | empty_channel(k, a) << 8;
+    unsigned answer = object_answer(k, PLAIN_WAITS_MESSAGE, a);
+
+    return answer == NTK_DONE ? NTK_DONE | empty_channel(k, a) << 8 : answer;
 }
 
 static inline unsigned serve(struct plain *k, uint8_t kind, uint32_t a, uint32_t b, uint32_t c, uint32_t d, uint32_t e, uint32_t f)
@@ -992,7 +963,7 @@ static inline unsigned serve(struct plain *k, uint8_t kind, uint32_t a, uint32_t
     case NTK_SEMAPHORE_POST:
         return semaphore_post(k, a);
     case NTK_SEMAPHORE_ABORT:
-        return semaphore_abort(k, a);
+        return object_abort(k, PLAIN_WAITS_SEMAPHORE, a);
     case NTK_MUTEX_CREATE:
         return mutex_create(k, a);
     case NTK_MUTEX_DELETE:
@@ -1002,7 +973,7 @@ static inline unsigned serve(struct plain *k, uint8_t kind, uint32_t a, uint32_t
     case NTK_MUTEX_POST:
         return mutex_post(k, a);
     case NTK_MUTEX_ABORT:
-        return mutex_abort(k, a);
+        return object_abort(k, PLAIN_WAITS_MUTEX, a);
     case NTK_GROUP_CREATE:
         return group_create(k, a, b);
     case NTK_GROUP_DELETE:
@@ -1012,7 +983,7 @@ static inline unsigned serve(struct plain *k, uint8_t kind, uint32_t a, uint32_t
     case NTK_GROUP_POST:
         return group_post(k, a, b, c);
     case NTK_GROUP_ABORT:
-        return group_abort(k, a);
+        return object_abort(k, PLAIN_WAITS_FLAGS, a);
     case NTK_CHANNEL_CREATE:
         return channel_create(k, a, b);
     case NTK_CHANNEL_DELETE:
@@ -1022,7 +993,7 @@ static inline unsigned serve(struct plain *k, uint8_t kind, uint32_t a, uint32_t
     case NTK_CHANNEL_POST:
         return channel_post(k, a, b, c);
     case NTK_CHANNEL_ABORT:
-        return channel_abort(k, a);
+        return object_abort(k, PLAIN_WAITS_MESSAGE, a);
     case NTK_CHANNEL_FLUSH:
         return channel_flush(k, a);
     default:
@@ -1034,7 +1005,7 @@ uint64_t plain_packed(struct plain *k, uint8_t kind, uint32_t a, uint32_t b, uin
 {
     unsigned said = serve(k, kind, a, b, c, d, e, f);
 
-    if (k->depth == 0)
+    if (__builtin_expect(k->depth == 0, 1))
         k->running = (uint8_t)first_able(k);
     return k->running == PLAIN_NONE ? said : (uint64_t)(k->running + 1u) << 32 | said;
 }
@@ -1054,16 +1025,8 @@ static int check_rings(const struct plain *k, uint32_t through)
             path |= UINT32_C(1) << i;
             i = holder_before(k, i);
         }
-        if (path >> i & 1) {
-            uint32_t ring = 0;
-            unsigned at = i;
-            do {
-                ring |= UINT32_C(1) << at;
-                at = holder_before(k, at);
-            } while (at != i);
-            if (work_of_ring(k, ring) != k->work[i])
-                return 0;
-        }
+        if (path >> i & 1 && work_of_ring(k, ring_of(k, i)) != k->work[i])
+            return 0;
         done |= path;
     }
     return 1;
@@ -1080,6 +1043,12 @@ static inline uint64_t eight(const void *at)
 #if __BYTE_ORDER__ != __ORDER_LITTLE_ENDIAN__
 #error "plain_check reads several bytes as one number, the lowest first"
 #endif
+
+/* An object that has a number: a bit is set where it is neither in use nor free, or free with a number that is not 0. */
+static inline uint32_t wrong_number(uint32_t used, uint32_t number)
+{
+    return (used & ~UINT32_C(1)) | (number & (used - 1));
+}
 
 /* Eight channels by their fields: a capacity of at most 32, which is not 0 exactly where the channel is in use, and no more messages than
  * that. A bit is set where it is not so. */
@@ -1121,6 +1090,23 @@ static inline uint64_t unused_slots(const struct plain *k)
     return halves[0] | halves[1];
 }
 
+/* The tasks behind a head, at least one: each has to belong there, and waiters stand by their priorities. `queued` falls by one for each. The walk
+ * comes back to the head, since each step is tested backwards. */
+static inline int check_queue(const struct plain *k, const uint8_t *place, unsigned head, int waits, unsigned *queued)
+{
+    unsigned i, before = head;
+    uint8_t p = 0;
+
+    for (i = k->next[head]; i != head; i = k->next[i]) {
+        if (i >= PLAIN_TASKS || place[i] != head || k->prev[i] != before || (waits && k->work[i] < p))
+            return 0;
+        p = k->work[i];
+        before = i;
+        --*queued;
+    }
+    return k->prev[head] == before && before != head;
+}
+
 /* Several bytes are tested together where that can be done, and with few branches: most of the time goes into the 32 tasks. */
 int plain_check(const struct plain *k)
 {
@@ -1160,7 +1146,7 @@ int plain_check(const struct plain *k)
             held_twice |= held & t->held;
             held |= t->held;
             at = word & not_able ? i : head_of(k->work[i] % 64u); /* the priority itself is tested below */
-            at = waits ? 16u * t->state + t->object : at; /* its object's head */
+            at = waits ? object_head(t->state, t->object) : at;
         }
         place[i] = (uint8_t)at;
         if (at != i)
@@ -1170,10 +1156,8 @@ int plain_check(const struct plain *k)
     }
 
     /* Each object by itself */
-    for (i = 0; i < PLAIN_OBJECTS; i++) {
-        const struct plain_semaphore *s = &k->semaphore[i];
-        bad |= (s->used & ~UINT32_C(1)) | (s->count & (s->used - 1));
-    }
+    for (i = 0; i < PLAIN_OBJECTS; i++)
+        bad |= wrong_number(k->semaphore[i].used, k->semaphore[i].count);
     for (i = 0; i < PLAIN_OBJECTS; i++) {
         const struct plain_mutex *m = &k->mutex[i];
         unsigned h = m->holder;
@@ -1185,30 +1169,17 @@ int plain_check(const struct plain *k)
             bad |= (m->used > 1) | m->nesting | (h ^ (m->used ? PLAIN_NONE : 0));
         }
     }
-    for (i = 0; i < PLAIN_GROUPS; i++) {
-        const struct plain_group *g = &k->group[i];
-        bad |= (g->used & ~UINT32_C(1)) | (g->flags & (g->used - 1));
-    }
+    for (i = 0; i < PLAIN_GROUPS; i++)
+        bad |= wrong_number(k->group[i].used, k->group[i].flags);
     wrong |= wrong_channels(&k->channel, 0) | wrong_channels(&k->channel, 8);
     if (wrong | bad | held_twice | (held ^ owned) | (k->default_quantum == 0) | (k->next[PLAIN_LEVEL] ^ PLAIN_NONE))
         return 0;
     wrong |= unused_slots(k);
 
-    /* The able tasks, level by level. A walk comes back to its head, since each step is tested backwards. */
-    for (ready = k->ready; ready; ready &= ready - 1) {
-        unsigned head = PLAIN_LEVEL + (unsigned)__builtin_ctzll(ready), before = head;
-
-        i = k->next[head];
-        do {
-            if (i >= PLAIN_TASKS || place[i] != head || k->prev[i] != before)
-                return 0;
-            before = i;
-            i = k->next[i];
-            queued--;
-        } while (i != head);
-        if (k->prev[head] != before)
+    /* The able tasks, level by level. */
+    for (ready = k->ready; ready; ready &= ready - 1)
+        if (!check_queue(k, place, PLAIN_LEVEL + (unsigned)__builtin_ctzll(ready), 0, &queued))
             return 0;
-    }
 
     /* Waiters: eight heads at a time, of which only those with tasks are looked at. */
     for (heads = PLAIN_SEMAPHORE; heads < PLAIN_LEVEL; heads += 8) {
@@ -1217,17 +1188,9 @@ int plain_check(const struct plain *k)
 
         wrong |= eight(k->work + heads);
         while (next) {
-            unsigned at = (unsigned)__builtin_ctzll(next) / 8, head = heads + at, before = head;
-            uint8_t p = 0;
+            unsigned at = (unsigned)__builtin_ctzll(next) / 8, head = heads + at;
 
-            for (i = k->next[head]; i != head; i = k->next[i]) {
-                if (i >= PLAIN_TASKS || place[i] != head || k->prev[i] != before || k->work[i] < p)
-                    return 0;
-                p = k->work[i];
-                before = i;
-                queued--;
-            }
-            if (k->prev[head] != before)
+            if (!check_queue(k, place, head, 1, &queued))
                 return 0;
             if (head < PLAIN_MUTEX) {
                 const struct plain_semaphore *s = &k->semaphore[head - PLAIN_SEMAPHORE];

@@ -10,7 +10,7 @@ enum { PLAIN_TASKS = 32, PLAIN_OBJECTS = 16, PLAIN_GROUPS = 8, PLAIN_MESSAGES = 
 /* Each queue is a ring of nodes through a node of its own: node i is task i, then come the heads of the queues. A task in no queue
  * is a ring by itself. The heads of a state's queues begin at 16 times the state; the eight nodes from PLAIN_NONE on, which stands for
  * "no task", are in no queue. The able tasks of each level, that is of each working priority, are a queue of their own: so the first is
- * found without a walk, and so is the end of a level. The heads stand as the bits of `ready` do, level 62 before level 61 and so on up to
+ * found without a walk, and so are both ends of a level. The heads stand as the bits of `ready` do, level 62 before level 61 and so on up to
  * level 0, and each is looked at only where its bit is set; but the head of bit 0, which no level has, has PLAIN_NONE next. */
 enum {
     PLAIN_SEMAPHORE = 32,

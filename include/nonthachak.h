@@ -18,7 +18,7 @@ extern "C" {
 
 /* The version of this header; ntk_version() is that of the archive. A port is built right where the two are the same. */
 #define NTK_VERSION_MAJOR 1
-#define NTK_VERSION_MINOR 6
+#define NTK_VERSION_MINOR 7
 #define NTK_VERSION_PATCH 0
 #define NTK_VERSION (NTK_VERSION_MAJOR * 10000u + NTK_VERSION_MINOR * 100u + NTK_VERSION_PATCH)
 

@@ -1,8 +1,8 @@
 /* nonthachak_queue.h: the ordered queues of the kernel's bookkeeping alone, for C code.
  *
  * A queue is a block of bytes that the caller owns, its slots, zeroed at the start: 0 is a free slot, and v holds the id v - 1. It is packed
- * to the front, in the order of the keys, the smaller first, and among equals by arrival. The keys are the caller's too, one byte for each id:
- * keys[id]. No queue has a state besides its slots.
+ * to the front, in the order of the keys, the smaller first, and among equals by arrival, unless one is moved before them. The keys are the
+ * caller's too, one byte for each id: keys[id]. No queue has a state besides its slots.
  *
  * Every function takes any bytes and any lengths, and a refusal leaves the slots as they came. What the pointers must be is C's to see to:
  * `slots` bytes at `ids` and `count` bytes at `keys`, real memory that may be read (and of the slots written, where they are not const), at any
@@ -26,7 +26,7 @@ enum ntq_answer {
     NTQ_DONE = 0,
     NTQ_BEYOND_KEYS = 1,   /* the id has no key, or it is 255, which no slot can hold */
     NTQ_ALREADY_THERE = 2, /* insert: the id stands there */
-    NTQ_NOT_THERE = 3,     /* remove, move behind: the id does not stand there */
+    NTQ_NOT_THERE = 3,     /* remove, move behind, move before: the id does not stand there */
     NTQ_FULL = 4           /* insert: no slot is free */
 };
 
@@ -59,8 +59,12 @@ NTQ_MUST_USE uint32_t ntq_remove(uint8_t *ids, size_t slots, uint8_t id);
  * NTQ_BEYOND_KEYS, NTQ_NOT_THERE. */
 NTQ_MUST_USE uint32_t ntq_move_behind(uint8_t *ids, size_t slots, const uint8_t *keys, size_t count, uint8_t id);
 
-/* 1 where the queue is as it should be: packed, each id within the keys, none twice, in order; else 0. Zeroed slots are, and the three changes
- * above keep a queue so, where a key that is changed is followed by ntq_move_behind of its id before the next change. */
+/* The id, whose key became smaller, leaves and goes before its equals at the new level: who is raised is served first. Refused as by
+ * ntq_move_behind. */
+NTQ_MUST_USE uint32_t ntq_move_before(uint8_t *ids, size_t slots, const uint8_t *keys, size_t count, uint8_t id);
+
+/* 1 where the queue is as it should be: packed, each id within the keys, none twice, in order; else 0. Zeroed slots are, and the four changes
+ * above keep a queue so, where a key that is changed is followed by a move of its id, behind or before, before the next change. */
 NTQ_MUST_USE uint32_t ntq_is_ordered(const uint8_t *ids, size_t slots, const uint8_t *keys, size_t count);
 
 /* Below: the parts that the changes are made of. They keep no order by themselves. */
@@ -68,6 +72,9 @@ NTQ_MUST_USE uint32_t ntq_is_ordered(const uint8_t *ids, size_t slots, const uin
 /* Where an id with this key goes behind its equals: the first slot that is free or whose id has a greater key; `slots` where there is none.
  * An id that has no key counts as one of key 0. */
 NTQ_MUST_USE size_t ntq_place_behind(const uint8_t *ids, size_t slots, const uint8_t *keys, size_t count, uint8_t key);
+
+/* Where it goes before them: the first slot that is free or whose id has a key that is no smaller. */
+NTQ_MUST_USE size_t ntq_place_before(const uint8_t *ids, size_t slots, const uint8_t *keys, size_t count, uint8_t key);
 
 /* v comes to the slot `at`, and the entries from there on move one further, up to the first free slot. Gives what falls out at the end: 0
  * where a slot was free, and v itself where there is no slot `at`. */

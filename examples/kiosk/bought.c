@@ -14,16 +14,21 @@ static void bought_create(uint32_t mutex)
     leave(ntk_semaphore_create(enter(), BOUGHT_MUTEX + mutex, 1));
 }
 
+/* The wait comes before the loan: a holder that is raised to the level of the task that runs would take the processor from it. */
 static void bought_take(uint32_t mutex)
 {
     uint8_t *image = enter();
     uint64_t own = ntk_priority_of(image, board_task());
+    uint32_t holder = holders[mutex];
+    struct ntk_outcome o = ntk_semaphore_wait(image, BOUGHT_MUTEX + mutex, NTK_MAY_BLOCK, NTK_FOREVER);
 
-    if (holders[mutex] == 0)
+    if (holder == 0) {
         holders[mutex] = board_task() + 1;
-    else if (ntk_priority_of(image, holders[mutex] - 1) > own)
-        taken(ntk_change_priority(image, holders[mutex] - 1, (uint32_t)own));
-    leave(ntk_semaphore_wait(image, BOUGHT_MUTEX + mutex, NTK_MAY_BLOCK, NTK_FOREVER));
+    } else if (ntk_priority_of(image, holder - 1) > own) {
+        taken(o);
+        o = ntk_change_priority(image, holder - 1, (uint32_t)own);
+    }
+    leave(o);
 }
 
 static void bought_post(uint32_t mutex)

@@ -187,7 +187,11 @@ impl Caller {
             12 => self.suspend_waiter(random, kernel),
             13 | 14 => self.force(random, kernel),
             15 => self.repeat(random, kernel, runs),
-            16 => Some(call(0x12, random.below(self.semaphores), 1, self.limit(random))),
+            16 => {
+                let empty = |s: usize| kernel.semaphores[s].used && kernel.semaphores[s].count == 0;
+                let s = random.pick_from((0..OBJECTS).filter(|&s| empty(s))).unwrap_or_else(|| random.below(self.semaphores));
+                Some(call(0x12, s, 1, self.limit(random)))
+            }
             17 => Some(call(0x06, 0, 0, 0)),
             18 => self.wake(random, kernel),
             19 => Some(call(0x07, random.soon() as usize, 0, 0)),
@@ -268,13 +272,18 @@ impl Caller {
         Some(call(0x33, g, mask, if random.chance(85) { helps } else { 1 - helps }))
     }
 
-    /// Changes the base of a task in a chain or in the queue of a group or a channel, or of one that has peers.
+    /// Changes the base of a task that waits, or of one that has peers; often to the level of one beside it in its queue.
     fn reshape(&mut self, random: &mut Random, kernel: &Kernel) -> Option<Call> {
-        let stands = |t: usize| matches!(kernel.tasks[t].state, State::Mutex(_) | State::Flags(..) | State::Channel(_));
-        let waiter = random.pick_from((0..TASKS).filter(|&t| stands(t)));
+        let waits = |t: usize| !matches!(kernel.tasks[t].state, State::Plain | State::Delayed);
+        let waiter = random.pick_from((0..TASKS).filter(|&t| waits(t)));
         let any = random.pick_from((0..TASKS).filter(|&t| kernel.tasks[t].used));
         let t = if random.chance(70) { waiter.or(any)? } else { any? };
-        Some(call(0x03, t, self.level(random), 0))
+        let beside = kernel.home(t).and_then(|place| random.pick_from(kernel.queue(place).iter().copied().filter(|&other| other != t)));
+        let level = match beside {
+            Some(other) if random.chance(50) => kernel.tasks[other].working.into(),
+            _ => self.level(random),
+        };
+        Some(call(0x03, t, level, 0))
     }
 
     /// Posts what the running task holds, or gives up a wait for it.
@@ -323,14 +332,14 @@ impl Caller {
         Some(chosen)
     }
 
-    /// A call that may make a task able.
+    /// A call that may make a task able, or that changes who will be next.
     fn wake(&mut self, random: &mut Random, kernel: &Kernel) -> Option<Call> {
         let tasks = |wanted: &dyn Fn(&Task) -> bool| (0..TASKS).filter(|&t| wanted(&kernel.tasks[t])).collect::<Vec<_>>();
         let s = random.pick_from((0..OBJECTS).filter(|&s| !kernel.semaphores[s].queue.is_empty()));
         let m = random.pick_from((0..OBJECTS).filter(|&m| !kernel.mutexes[m].queue.is_empty()));
         let g = random.pick_from((0..GROUPS).filter(|&g| !kernel.groups[g].queue.is_empty()));
         let c = random.pick_from((0..OBJECTS).filter(|&c| !kernel.channels[c].queue.is_empty()));
-        match random.below(14) {
+        match random.below(15) {
             0 => random.pick_from(tasks(&|t| t.suspends > 0).into_iter()).map(|t| call(0x05, t, 0, 0)),
             1 => random.pick_from(tasks(&|t| t.state == State::Delayed).into_iter()).map(|t| call(0x08, t, 0, 0)),
             2 => s.map(|s| call(0x13, s, 0, 0)),
@@ -342,6 +351,7 @@ impl Caller {
             9 => g.map(|g| call(0x34, g, 0, 0)),
             10 => self.post_message(random, kernel),
             11 => c.map(|c| call(0x44, c, 0, 0)),
+            12 => self.reshape(random, kernel),
             _ => Some(call(0x0B, 0, 0, 0)),
         }
     }

@@ -310,6 +310,13 @@ impl Kernel {
         self.queue_mut(place).insert(behind, t);
     }
 
+    /// "go before its equals"
+    fn enter_before(&mut self, t: usize, place: Place) {
+        let level = self.tasks[t].working;
+        let before = self.queue(place).iter().take_while(|&&other| self.tasks[other].working < level).count();
+        self.queue_mut(place).insert(before, t);
+    }
+
     /// "it leaves its queue", if it stands in one.
     fn leave(&mut self, t: usize) {
         if let Some(place) = self.stands_in(t) {
@@ -337,16 +344,18 @@ impl Kernel {
 // Move
 
 impl Kernel {
-    /// "Where a task's working priority changes while it stands in a queue, it goes behind its equals at
-    /// the new level." "an unchanged working priority moves nothing"
+    /// "A task whose working priority becomes more urgent is to go before its equals at the new level, in the able
+    /// queue and in every wait queue; a lowered one goes behind as today." "an unchanged working priority moves nothing"
     fn refresh(&mut self, t: usize) {
-        let level = self.afresh(t);
-        if level != self.tasks[t].working {
+        let (old, level) = (self.tasks[t].working, self.afresh(t));
+        if level != old {
             let place = self.stands_in(t);
             self.leave(t);
             self.tasks[t].working = level;
-            if let Some(place) = place {
-                self.enter(t, place);
+            match place {
+                Some(place) if level < old => self.enter_before(t, place),
+                Some(place) => self.enter(t, place),
+                None => {}
             }
         }
     }

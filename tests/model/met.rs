@@ -1,6 +1,6 @@
 //! What random calls met.
 use crate::kernel::kinds::KINDS;
-use crate::kernel::{level_bit, Call, Kernel, Outcome, State, Task, Wanted, TASKS};
+use crate::kernel::{level_bit, Call, Kernel, Outcome, Place, State, Task, Wanted, TASKS};
 use std::collections::BTreeMap;
 
 /// What the sequences met, to show that they reach the corners.
@@ -24,6 +24,7 @@ pub struct Met {
     flags: MetFlags,
     channels: MetChannels,
     levels: MetLevels,
+    moves: MetMoves,
 }
 
 /// Did a chain change the working priority of a task that waits, and waits on, in such a state?
@@ -264,6 +265,68 @@ impl MetLevels {
     }
 }
 
+/// Who came before its equals, or behind them, as its working priority changed in its queue.
+struct MetMoves {
+    counts: Counts,
+    most: usize,
+}
+
+impl Default for MetMoves {
+    fn default() -> MetMoves {
+        MetMoves { counts: Counts::new("moves", &MET_MOVES), most: 0 }
+    }
+}
+
+const MET_MOVES: [&str; 10] = [
+    "an able task raised before an equal",
+    "one that so took the processor",
+    "a waiter for a semaphore raised before an equal",
+    "one for a mutex",
+    "one for flags",
+    "one for a message",
+    "raised before another that the same call raised",
+    "raised before who came by the same call",
+    "an able task lowered behind an equal",
+    "a waiter lowered behind an equal",
+];
+
+impl MetMoves {
+    fn note(&mut self, before: &Kernel, after: &Kernel) {
+        let stays = |t: usize| before.home(t).is_some() && before.home(t) == after.home(t);
+        let raised = |t: usize| stays(t) && after.tasks[t].working < before.tasks[t].working;
+        let lowered = |t: usize| stays(t) && after.tasks[t].working > before.tasks[t].working;
+        self.most = self.most.max((0..TASKS).filter(|&t| raised(t)).count());
+        let mut count = |name, met| self.counts.count(name, met);
+        for place in Kernel::places() {
+            for two in after.queue(place).windows(2) {
+                let (first, second) = (two[0], two[1]);
+                if after.tasks[first].working != after.tasks[second].working {
+                    continue;
+                }
+                if raised(first) {
+                    let name = match place {
+                        Place::Able => "an able task raised before an equal",
+                        Place::Semaphore(_) => "a waiter for a semaphore raised before an equal",
+                        Place::Mutex(_) => "one for a mutex",
+                        Place::Group(_) => "one for flags",
+                        Place::Channel(_) => "one for a message",
+                    };
+                    count(name, true);
+                    count("one that so took the processor", before.running == Some(second) && after.running == Some(first));
+                    count("raised before another that the same call raised", raised(second));
+                    count("raised before who came by the same call", !stays(second));
+                }
+                count("an able task lowered behind an equal", place == Place::Able && lowered(second));
+                count("a waiter lowered behind an equal", place != Place::Able && lowered(second));
+            }
+        }
+    }
+
+    fn tell(&self) {
+        self.counts.tell(format!("most raised by one call {}", self.most));
+    }
+}
+
 impl Met {
     pub fn note(&mut self, before: &Kernel, after: &Kernel, call: Call, outcome: Outcome) {
         let answer = outcome.answer;
@@ -272,6 +335,7 @@ impl Met {
         self.flags.moved += u64::from(moved_one(before, after, |state| matches!(state, State::Flags(..))));
         self.channels.note(before, after, call, outcome);
         self.levels.note(before, after, call);
+        self.moves.note(before, after);
         if answer == 14 {
             self.note_chain(after, before.running.unwrap());
         }
@@ -321,7 +385,9 @@ impl Met {
         self.flags.tell();
         self.channels.tell();
         self.levels.tell();
-        let mut unmet: Vec<String> = self.channels.counts.unmet().chain(self.levels.counts.unmet()).collect();
+        self.moves.tell();
+        let counts = [&self.channels.counts, &self.levels.counts, &self.moves.counts];
+        let mut unmet: Vec<String> = counts.iter().flat_map(|counts| counts.unmet()).collect();
         for (kind, name, _) in KINDS {
             let counts = self.answers.range((kind, 0)..=(kind, u32::MAX));
             let list: Vec<String> = counts.map(|((_, answer), count)| format!("{answer}: {count}")).collect();
@@ -330,7 +396,7 @@ impl Met {
             unmet.extend(missing.map(|answer| format!("{name} {answer}")));
         }
         if unmet.is_empty() {
-            println!("  every answer that a kind can give was met, and all that is counted of channels and ready levels");
+            println!("  every answer that a kind can give was met, and all that is counted of channels, ready levels and moves");
         } else {
             println!("  not met: {}", unmet.join(", "));
         }

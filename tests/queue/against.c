@@ -48,10 +48,11 @@ static size_t found_in(const struct lent *q, unsigned id)
     return at < q->slots ? at : NTQ_NOWHERE;
 }
 
-static size_t place_in(const struct lent *q, unsigned key)
+/* Behind how many ids one with this key goes: those at the front whose keys are smaller or, where it goes behind its equals, the same. */
+static size_t place_in(const struct lent *q, unsigned key, int behind)
 {
     size_t at = 0;
-    while (at < q->slots && q->ids[EDGE + at] != 0 && key_of(q, q->ids[EDGE + at]) <= key)
+    while (at < q->slots && q->ids[EDGE + at] != 0 && key_of(q, q->ids[EDGE + at]) < key + (behind ? 1 : 0))
         at++;
     return at;
 }
@@ -99,7 +100,7 @@ static uint32_t insert_in(struct lent *q, unsigned id)
         return NTQ_ALREADY_THERE;
     if (slot_of(q, 0, 0) == q->slots)
         return NTQ_FULL;
-    (void)open_in(q, place_in(q, q->keys[id]), (uint8_t)(id + 1));
+    (void)open_in(q, place_in(q, q->keys[id], 1), (uint8_t)(id + 1));
     return NTQ_DONE;
 }
 
@@ -111,13 +112,13 @@ static uint32_t remove_in(struct lent *q, unsigned id)
     return NTQ_DONE;
 }
 
-static uint32_t move_in(struct lent *q, unsigned id)
+static uint32_t move_in(struct lent *q, unsigned id, int behind)
 {
     if (!is_known(q, id))
         return NTQ_BEYOND_KEYS;
     if (remove_in(q, id) != NTQ_DONE)
         return NTQ_NOT_THERE;
-    (void)open_in(q, place_in(q, q->keys[id]), (uint8_t)(id + 1));
+    (void)open_in(q, place_in(q, q->keys[id], behind), (uint8_t)(id + 1));
     return NTQ_DONE;
 }
 
@@ -169,11 +170,13 @@ static void compare(const struct lent *from)
 
     HOLD("ntq_first", ntq_first(q.ids + EDGE, q.slots), first_in(r));
     HOLD("ntq_find", ntq_find(q.ids + EDGE, q.slots, id), found_in(r, id));
-    HOLD("ntq_place_behind", ntq_place_behind(q.ids + EDGE, q.slots, q.keys, q.count, key), place_in(r, key));
+    HOLD("ntq_place_behind", ntq_place_behind(q.ids + EDGE, q.slots, q.keys, q.count, key), place_in(r, key, 1));
+    HOLD("ntq_place_before", ntq_place_before(q.ids + EDGE, q.slots, q.keys, q.count, key), place_in(r, key, 0));
     HOLD("ntq_open", ntq_open(q.ids + EDGE, q.slots, at, key), open_in(r, at, key));
     HOLD("ntq_close", ntq_close(q.ids + EDGE, q.slots, at), close_in(r, at));
     HOLD("ntq_remove", ntq_remove(q.ids + EDGE, q.slots, id), remove_in(r, id));
-    HOLD("ntq_move_behind", ntq_move_behind(q.ids + EDGE, q.slots, q.keys, q.count, id), move_in(r, id));
+    HOLD("ntq_move_behind", ntq_move_behind(q.ids + EDGE, q.slots, q.keys, q.count, id), move_in(r, id, 1));
+    HOLD("ntq_move_before", ntq_move_before(q.ids + EDGE, q.slots, q.keys, q.count, id), move_in(r, id, 0));
     HOLD("ntq_insert", ntq_insert(q.ids + EDGE, q.slots, q.keys, q.count, id), insert_in(r, id));
     HOLD("ntq_is_ordered", ntq_is_ordered(q.ids + EDGE, q.slots, q.keys, q.count), ordered_in(r));
 }
@@ -192,7 +195,7 @@ static void go_on(struct lent *q)
         case 1:
             if (id < q->count)
                 q->keys[id] = (uint8_t)below(4);
-            answer = ntq_move_behind(q->ids + EDGE, q->slots, q->keys, q->count, id);
+            answer = (below(2) ? ntq_move_behind : ntq_move_before)(q->ids + EDGE, q->slots, q->keys, q->count, id);
             break;
         default: answer = ntq_insert(q->ids + EDGE, q->slots, q->keys, q->count, id);
         }
@@ -231,8 +234,9 @@ static int takes_none(void)
 
     return ntq_first(NULL, 0) == NTQ_NOBODY && ntq_find(NULL, 0, 0) == NTQ_NOWHERE && ntq_insert(NULL, 0, NULL, 0, 0) == NTQ_BEYOND_KEYS &&
            ntq_insert(NULL, 0, &key, 1, 0) == NTQ_FULL && ntq_remove(NULL, 0, 0) == NTQ_NOT_THERE &&
-           ntq_move_behind(NULL, 0, &key, 1, 0) == NTQ_NOT_THERE && ntq_is_ordered(NULL, 0, NULL, 0) == 1 &&
-           ntq_place_behind(NULL, 0, NULL, 0, 0) == 0 && ntq_open(NULL, 0, 0, 7) == 7 && ntq_close(NULL, 0, 0) == 0;
+           ntq_move_behind(NULL, 0, &key, 1, 0) == NTQ_NOT_THERE && ntq_move_before(NULL, 0, &key, 1, 0) == NTQ_NOT_THERE &&
+           ntq_is_ordered(NULL, 0, NULL, 0) == 1 && ntq_place_behind(NULL, 0, NULL, 0, 0) == 0 &&
+           ntq_place_before(NULL, 0, NULL, 0, 0) == 0 && ntq_open(NULL, 0, 0, 7) == 7 && ntq_close(NULL, 0, 0) == 0;
 }
 
 int main(void)

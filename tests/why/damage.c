@@ -2,12 +2,15 @@
  * 1000th call and at its end takes the image: as it is, with each field of each record set to several values, with each bit of the ready word turned
  * over, with slots and queues exchanged, with several damages at once, and with a wrong length. So does it with a table of channels and with one of
  * levels, where of some damages the rule and the record are known beforehand. Prints what was met; 0 where all is well. */
+#include <stdarg.h>
 #include <stdio.h>
 #include <stdlib.h>
 #include <string.h>
 
 #include "plainly.h"
 #include "reel.h"
+
+#define COUNT_OF(array) (sizeof(array) / sizeof *(array))
 
 enum { EVERY = 1000, RULES = 256, DAMAGES = 400 };
 
@@ -25,6 +28,18 @@ static uint32_t below(uint32_t n)
 {
     state = state * 6364136223846793005u + 1442695040888963407u;
     return (uint32_t)(state >> 33) % n;
+}
+
+static void fails(const char *what, ...)
+{
+    va_list words;
+
+    va_start(words, what);
+    printf("why: ");
+    vprintf(what, words);
+    printf("\n");
+    va_end(words);
+    wrong++;
 }
 
 static void expect(const char *what, int holds, struct ntk_reason reason)
@@ -50,7 +65,8 @@ static struct ntk_reason why_plainly(void)
     return reason;
 }
 
-static void try_image(void)
+/* What ntk_why says of the image; then the image is the sound one again. */
+static struct ntk_reason try_image(void)
 {
     static uint8_t before[sizeof image];
     struct ntk_reason reason, plain;
@@ -63,13 +79,15 @@ static void try_image(void)
     plain = why_plainly();
     expect("a plain reading finds another rule first", reason.rule == plain.rule, reason);
     expect("a plain reading finds another record first", reason.number == plain.number, reason);
-    if (reason.rule >= RULES)
-        return;
-    met[reason.rule]++;
-    broken_ones += reason.rule != NTK_RULE_NONE;
-    expect("the rule is kept there", reason.rule == NTK_RULE_NONE || !kept_plainly(reason.rule, reason.number, image), reason);
-    answer = ntk_step(0, 0, 0, 0, 0, 0, 0, image, NTK_IMAGE_SIZE).answer;
-    expect("ntk_step disagrees", (answer == NTK_NOT_SOUND) == (reason.rule != NTK_RULE_NONE), reason);
+    if (reason.rule < RULES) {
+        met[reason.rule]++;
+        broken_ones += reason.rule != NTK_RULE_NONE;
+        expect("the rule is kept there", reason.rule == NTK_RULE_NONE || !kept_plainly(reason.rule, reason.number, image), reason);
+        answer = ntk_step(0, 0, 0, 0, 0, 0, 0, image, NTK_IMAGE_SIZE).answer;
+        expect("ntk_step disagrees", (answer == NTK_NOT_SOUND) == (reason.rule != NTK_RULE_NONE), reason);
+    }
+    memcpy(image, sound, sizeof sound);
+    return reason;
 }
 
 static void put(const struct column *c, uint32_t number, uint64_t value)
@@ -85,7 +103,7 @@ static uint32_t value_of(size_t k)
 {
     static const uint32_t values[] = {0, 1, 2, 3, 4, 8, 16, 33, 63, 251, 255};
 
-    return k < sizeof values / sizeof *values ? values[k] : below(40);
+    return k < COUNT_OF(values) ? values[k] : below(40);
 }
 
 /* Each field of each record, set to values; a slot to one of them. */
@@ -99,7 +117,6 @@ static void try_fields(void)
             for (k = 0; k < (columns[i].count > 32 ? 1 : 5); k++) {
                 put(&columns[i], n, value_of(below(14)));
                 try_image();
-                memcpy(image, sound, sizeof sound);
             }
 }
 
@@ -129,7 +146,6 @@ static void try_several(void)
             put(c, below(c->count), value_of(below(14)));
         }
         try_image();
-        memcpy(image, sound, sizeof sound);
     }
 }
 
@@ -142,6 +158,22 @@ static const struct column *column_of(uint32_t field)
     return column;
 }
 
+/* A field set to a value, and what is broken by it. */
+struct known {
+    uint32_t field, number;
+    uint64_t value;
+    struct ntk_reason reason;
+};
+
+static void try_known(const char *what, struct known known)
+{
+    struct ntk_reason reason;
+
+    put(column_of(known.field), known.number, known.value);
+    reason = try_image();
+    expect(what, reason.rule == known.reason.rule && reason.number == known.reason.number, reason);
+}
+
 /* The tick counter comes to a due mark. */
 static void try_ticks(void)
 {
@@ -149,27 +181,22 @@ static void try_ticks(void)
 
     for (i = 0; i < NTK_TASKS; i++)
         if (of(NTK_FIELD_TASK_MARKED, i, sound) == 1) {
+            struct ntk_reason reason;
+
             put(column_of(NTK_FIELD_TICK), 0, of(NTK_FIELD_TASK_DUE, i, sound));
-            try_image();
-            expect("a tick at a due mark", ntk_why(image, NTK_IMAGE_SIZE).rule != NTK_RULE_NONE, why_plainly());
-            memcpy(image, sound, sizeof sound);
+            reason = try_image();
+            expect("a tick at a due mark", reason.rule != NTK_RULE_NONE, reason);
         }
 }
 
 /* A bit of the ready word that is not as it was breaks the rule of its level, and no other. */
 static void try_levels(void)
 {
+    uint64_t word = decode(NTK_FIELD_READY, 0, sound);
     uint32_t level;
 
-    for (level = 0; level < NTK_LEVELS; level++) {
-        struct ntk_reason reason;
-
-        put(column_of(NTK_FIELD_READY), 0, decode(NTK_FIELD_READY, 0, sound) ^ NTK_LEVEL_BIT(level));
-        try_image();
-        reason = ntk_why(image, NTK_IMAGE_SIZE);
-        expect("a bit of the ready word", reason.rule == NTK_RULE_READY_LEVELS && reason.number == level, reason);
-        memcpy(image, sound, sizeof sound);
-    }
+    for (level = 0; level < NTK_LEVELS; level++)
+        try_known("a bit of the ready word", (struct known){NTK_FIELD_READY, 0, word ^ NTK_LEVEL_BIT(level), {NTK_RULE_READY_LEVELS, level}});
 }
 
 static void try_lengths(void)
@@ -187,13 +214,21 @@ static void try_lengths(void)
 
 static void try_all(void)
 {
+    struct ntk_reason reason;
+
     memcpy(image, sound, sizeof sound);
-    try_image();
-    expect("a table that was played is broken", ntk_why(image, NTK_IMAGE_SIZE).rule == NTK_RULE_NONE, why_plainly());
+    reason = try_image();
+    expect("a table that was played is broken", reason.rule == NTK_RULE_NONE, reason);
     try_fields();
     try_several();
     try_ticks();
     try_levels();
+}
+
+static void make_fresh(void)
+{
+    if (ntk_fresh(sound, sizeof sound) != NTK_DONE)
+        fails("no fresh table");
 }
 
 /* ---- tables of which something is known */
@@ -202,10 +237,8 @@ static void make_call(uint8_t kind, uint32_t a, uint32_t b, uint32_t c, uint32_t
 {
     uint32_t answer = ntk_step(kind, a, b, c, 0, 0, 0, sound, sizeof sound).answer;
 
-    if (answer == want)
-        return;
-    printf("why: kind 0x%02X is answered %lu\n", kind, (unsigned long)answer);
-    wrong++;
+    if (answer != want)
+        fails("kind 0x%02X is answered %lu", kind, (unsigned long)answer);
 }
 
 /* Task 1 waits for channel 0, channel 7 holds two of three messages, and channel 15 is full. */
@@ -213,8 +246,7 @@ static void make_channels(void)
 {
     uint32_t i;
 
-    if (ntk_fresh(sound, sizeof sound) != NTK_DONE)
-        wrong++;
+    make_fresh();
     make_call(NTK_TASK_CREATE, 1, 10, 5, NTK_DONE);
     make_call(NTK_CHANNEL_CREATE, 0, 1, 0, NTK_DONE);
     make_call(NTK_CHANNEL_CREATE, 7, 3, 0, NTK_DONE);
@@ -225,13 +257,6 @@ static void make_channels(void)
         make_call(NTK_CHANNEL_POST, 15, i, NTK_AT_END, NTK_DONE);
     make_call(NTK_CHANNEL_WAIT, 0, NTK_MAY_BLOCK, 9, NTK_BLOCKS);
 }
-
-/* A field set to a value, and what is broken by it. */
-struct known {
-    uint32_t field, number;
-    uint64_t value;
-    struct ntk_reason reason;
-};
 
 static const struct known of_channels[] = {
     {NTK_FIELD_TASK_STATE, 1, 6, {NTK_RULE_TASK_STATE, 1}},
@@ -260,8 +285,7 @@ static const struct known of_channels[] = {
 /* Task 3 runs at level 0, tasks 1 and 2 are able at level 10; task 4, of level 62, is suspended, and task 5, of level 30, sleeps. */
 static void make_levels(void)
 {
-    if (ntk_fresh(sound, sizeof sound) != NTK_DONE)
-        wrong++;
+    make_fresh();
     make_call(NTK_TASK_CREATE, 5, 30, 5, NTK_DONE);
     make_call(NTK_DELAY, 9, 0, 0, NTK_DONE);
     make_call(NTK_TASK_CREATE, 4, 62, 5, NTK_DONE);
@@ -290,21 +314,14 @@ static const struct known of_levels[] = {
     {NTK_FIELD_RUNNING, 0, 0, {NTK_RULE_RUNNING_FIRST, 0}},
 };
 
-static void try_known(void (*make)(void), const struct known *known, size_t count)
+static void try_table(void (*make)(void), const struct known *known, size_t count)
 {
     size_t i;
 
     make();
     try_all();
-    for (i = 0; i < count; i++) {
-        struct ntk_reason reason;
-
-        put(column_of(known[i].field), known[i].number, known[i].value);
-        try_image();
-        reason = ntk_why(image, NTK_IMAGE_SIZE);
-        expect("another rule is known to be broken", reason.rule == known[i].reason.rule && reason.number == known[i].reason.number, reason);
-        memcpy(image, sound, sizeof sound);
-    }
+    for (i = 0; i < count; i++)
+        try_known("another rule is known to be broken", known[i]);
 }
 
 /* ---- tapes */
@@ -316,21 +333,16 @@ static void play(const char *name)
     struct call call;
 
     if (!file) {
-        printf("why: cannot open %s\n", name);
+        fails("cannot open %s", name);
         exit(2);
     }
     reel = reel_of(file);
-    if (ntk_fresh(sound, sizeof sound) != NTK_DONE) {
-        printf("why: no fresh table\n");
-        wrong++;
-    }
+    make_fresh();
     while (reel_next(&reel, &call) == GOT_CALL) {
         const uint32_t *n = call.numbers;
 
-        if (ntk_step(reel.bytes[0], n[0], n[1], n[2], n[3], n[4], n[5], sound, sizeof sound).answer == NTK_NOT_SOUND) {
-            printf("why: %s: a call on a table that was played gets 15\n", name);
-            wrong++;
-        }
+        if (ntk_step(reel.bytes[0], n[0], n[1], n[2], n[3], n[4], n[5], sound, sizeof sound).answer == NTK_NOT_SOUND)
+            fails("%s: a call on a table that was played gets 15", name);
         if (reel.calls % EVERY == 0)
             try_all();
     }
@@ -347,14 +359,12 @@ static void tell_met(void)
     for (rule = 1; rule < RULES; rule++) {
         int can = strcmp(ntk_rule_name(rule), "unknown") != 0;
 
-        for (i = 0; i < sizeof unbreakable / sizeof *unbreakable; i++)
+        for (i = 0; i < COUNT_OF(unbreakable); i++)
             can = can && rule != unbreakable[i];
-        if (can == (met[rule] > 0)) {
-            kinds += can ? 1 : 0;
-            continue;
-        }
-        printf("why: rule 0x%02lX (%s) was met %lu times\n", (unsigned long)rule, ntk_rule_name(rule), met[rule]);
-        wrong++;
+        if (can != (met[rule] > 0))
+            fails("rule 0x%02lX (%s) was met %lu times", (unsigned long)rule, ntk_rule_name(rule), met[rule]);
+        else if (can)
+            kinds++;
     }
     printf("why: %lu images, %lu of them broken, %lu rules met (", tried, broken_ones, (unsigned long)kinds);
     for (rule = 1, kinds = 0; rule < RULES; rule++)
@@ -369,8 +379,8 @@ int main(int count, char **names)
 
     for (i = 1; i < count; i++)
         play(names[i]);
-    try_known(make_channels, of_channels, sizeof of_channels / sizeof *of_channels);
-    try_known(make_levels, of_levels, sizeof of_levels / sizeof *of_levels);
+    try_table(make_channels, of_channels, COUNT_OF(of_channels));
+    try_table(make_levels, of_levels, COUNT_OF(of_levels));
     try_lengths();
     tell_met();
     return wrong != 0;

@@ -3,9 +3,9 @@
 ghost use mathlib.Core.Path.{_≡_};
 ghost use mathlib.Core.Bool.{cond};
 ghost use lib.ListN.{getD};
-ghost use Rattle.queue.specs.Slots.{placeBehind, opened, fallen, closed, without};
+ghost use Rattle.queue.specs.Slots.{placeBehind, placeBefore, opened, fallen, closed, without};
 ghost use Rattle.queue.specs.Order.{isOrdered};
-ghost use Rattle.queue.specs.Answers.{headOf, foundIn, insertAnswer, removeAnswer, moveAnswer, inserted, movedIn};
+ghost use Rattle.queue.specs.Answers.{headOf, foundIn, insertAnswer, removeAnswer, moveAnswer, inserted, movedIn, raisedIn};
 ghost use Rattle.cqueue.specs.Numbers.{firstNumber, placeNumber, answerNumber};
 use queue::Answer;
 use queue::Found;
@@ -63,6 +63,13 @@ pub extern "C" fn ntq_place_behind(ids: &[u8], keys: &[u8], key: u8) -> usize
 }
 
 #[no_mangle]
+pub extern "C" fn ntq_place_before(ids: &[u8], keys: &[u8], key: u8) -> usize
+    ensures { λ r. ⌜ r ≡ placeBefore (now (keys .entry)) key (now (ids .entry)) ⌝ }
+{
+    queue::place_before(ids, keys, key)
+}
+
+#[no_mangle]
 pub extern "C" fn ntq_open(ids: &mut [u8], at: usize, v: u8) -> u8
     ensures { λ r. ⌜ (r ≡ fallen at v (now (ids .entry))) × (now (ids .exit) ≡ opened at v (now (ids .entry))) ⌝ }
 {
@@ -95,6 +102,13 @@ pub extern "C" fn ntq_move_behind(ids: &mut [u8], keys: &[u8], id: u8) -> u32
     ensures { λ r. ⌜ (r ≡ answerNumber (moveAnswer (now (keys .entry)) id (now (ids .entry)))) × (now (ids .exit) ≡ movedIn (now (keys .entry)) id (now (ids .entry))) ⌝ }
 {
     answer_number(queue::move_behind(ids, keys, id))
+}
+
+#[no_mangle]
+pub extern "C" fn ntq_move_before(ids: &mut [u8], keys: &[u8], id: u8) -> u32
+    ensures { λ r. ⌜ (r ≡ answerNumber (moveAnswer (now (keys .entry)) id (now (ids .entry)))) × (now (ids .exit) ≡ raisedIn (now (keys .entry)) id (now (ids .entry))) ⌝ }
+{
+    answer_number(queue::move_before(ids, keys, id))
 }
 
 // 1 or 0: a bool of C is no number of a fixed width.

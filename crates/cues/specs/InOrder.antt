@@ -15,7 +15,7 @@ use Rattle.queue.specs.Order.{Le, All, none, more, Ordered, empty, front, those
 use Rattle.queue.specs.Answers.{headOf, insertAnswer, moveAnswer}
 use Rattle.queue.specs.Keeps.{all-map, key-own, Agree}
 use Rattle.queue.specs.Stable.{those-skip}
-use Rattle.queue.specs.Changes.{made, newly, Bytes, peer, free-whole, inserted-whole, inserted-level, inserted-bytes, movedIn-whole, movedIn-level, movedIn-bytes}
+use Rattle.queue.specs.Changes.{made, newly, Bytes, peer, free-whole, inserted-whole, inserted-level, inserted-bytes, replacedIn-whole, replacedIn-level, replacedIn-bytes}
 use Rattle.queue.specs.declared.Answer.{Answer}
 use Rattle.cues.specs.Plays.{played}
 use Rattle.cues.specs.Evening.{levelOf, Rising, nothing, next, ofLevel, InOrder, Desk, Step, linesUp, changes, accepted, step, evening, Opens}
@@ -257,12 +257,12 @@ module _ (cue x : ℕ) (d : Desk) (h : Holds d) where
   changes-holds =
       let n : length keys ≡ length (d .levels) = length-set (d .levels) cue x in
       record {
-        whole = movedIn-whole (d .levels) keys cue (d .queue) (h .whole) n agree (h .small);
-        small = movedIn-bytes keys cue (d .queue) (h .small);
+        whole = replacedIn-whole false (d .levels) keys cue (d .queue) (h .whole) n agree (h .small);
+        small = replacedIn-bytes false keys cue (d .queue) (h .small);
         stable = λ k.
             let q = level keys k in
             let a = moveAnswer keys cue (d .queue) in
-            movedIn-level (d .levels) keys cue (d .queue) (h .whole) n agree (h .small) k
+            replacedIn-level false (d .levels) keys cue (d .queue) (h .whole) n agree (h .small) k
             ∙ ap (λ (r : List ℕ). r ++ those q (newly a cue)) (others-level k)
             ∙ sym (came-level q a cue (those (λ other. not (eqb other cue)) (d .came)));
       }

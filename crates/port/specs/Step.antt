@@ -16,7 +16,7 @@ use Rattle.table.specs.Image.{imageSize, view, imageOf}
 
 -- The library's version, which the header has too: 1.6.0.
 abbrev pub version : ℕ
-version = 10600
+version = 10700
 
 -- Where the bytes are an image's by their length, what the rules say of the table that they show; else 15.
 unfoldable pub sized : (Table → Outcome) → List ℕ → Outcome

@@ -87,7 +87,7 @@ fn serve_plainly(kind: u8, a: u32, b: u32, c: u32, d: u32, e: u32, f: u32, image
 }
 
 // The version of this library: major, minor and patch, two digits for each of the last two. The header has the same.
-const VERSION: u32 = 10600;
+const VERSION: u32 = 10700;
 
 #[no_mangle]
 pub extern "C" fn ntk_version() -> u32

@@ -10,18 +10,18 @@ use native.Mathlib.Omega.{arith}
 use lib.Dec.{eqb, ltb}
 use lib.ListN.{length, getD}
 use borrow.Author.Tests.{ltb-true, lt-ltb, eqb-true, eq-eqb, ne-eqb}
-use Rattle.queue.specs.Slots.{keyOf, stands, behind, without, moved, placeOf}
+use Rattle.queue.specs.Slots.{keyOf, stands, limit, entered, behind, without, replaced, placeOf}
 use Rattle.queue.specs.Order.{Le, All, none, more, Ordered, empty, front, one, count, those, other, level, Whole}
-use Rattle.queue.specs.Answers.{headOf, known, insertAnswer, removeAnswer, moveAnswer, after, inserted, movedIn}
+use Rattle.queue.specs.Answers.{headOf, known, insertAnswer, removeAnswer, moveAnswer, after, inserted, replacedIn, movedIn, raisedIn}
 use Rattle.queue.specs.Stands.{stands-some, count-stands, one-same, one-other}
 use Rattle.queue.specs.Room.{nothing-falls}
-use Rattle.queue.specs.Lengths.{length-behind, length-moved}
+use Rattle.queue.specs.Lengths.{length-entered, length-replaced}
 pub use Rattle.queue.specs.Lengths.{length-without}
-use Rattle.queue.specs.Counts.{count-behind, count-without, count-moved, without-free}
-use Rattle.queue.specs.Keeps.{all-map, le-self, all-opened, all-closed, key-own, behind-ordered, ordered-agree, Agree}
+use Rattle.queue.specs.Counts.{count-entered, count-without, count-replaced, without-free}
+use Rattle.queue.specs.Keeps.{all-map, le-self, all-opened, all-closed, key-own, entered-ordered, ordered-agree, Agree}
 pub use Rattle.queue.specs.Keeps.{without-ordered}
-use Rattle.queue.specs.Stable.{those-opened, those-closed, those-skip, those-take, behind-last, without-behind, without-absent, placed}
-use Rattle.queue.specs.Checked.{stands-all, behind-whole, moved-whole}
+use Rattle.queue.specs.Stable.{those-opened, those-closed, those-skip, those-take, behind-last, before-first, without-entered, without-absent, placed}
+use Rattle.queue.specs.Checked.{stands-all, entered-whole, replaced-whole}
 pub use Rattle.queue.specs.Checked.{without-whole}
 use Rattle.queue.specs.declared.Head.{Head}
 use Rattle.queue.specs.declared.Head.the-variants.{Is, Nobody}
@@ -67,21 +67,30 @@ module _ (keys : List ℕ) (k id : ℕ) where
   of-level : (b : Bool) → eqb (getD keys id 0) k ≡ b → level keys k (id + 1) ≡ b
   of-level b e = rw (ne-eqb (id + 1) 0 (λ p. omega arith), key-own keys id) e
 
-  -- Who comes in behind its equals comes last of its own level.
-  behind-level : {l : List ℕ} → Ordered keys l → stands 0 l ≡ true → those (level keys k) (behind keys id l) ≡ those (level keys k) l ++ those (level keys k) ((id + 1) ∷ [])
+  -- Who comes in comes before all of its own level, or else behind them.
+  abbrev pub lined : Bool → List ℕ → List ℕ
+  lined inFront l = cond inFront (those (level keys k) ((id + 1) ∷ []) ++ l) (l ++ those (level keys k) ((id + 1) ∷ []))
+
+  entered-level : {l : List ℕ} (inFront : Bool) → Ordered keys l → stands 0 l ≡ true → those (level keys k) (entered inFront keys id l) ≡ lined inFront (those (level keys k) l)
   unfolding those
-  behind-level {l} o e = go (eqb (getD keys id 0) k) refl
+  entered-level {l} inFront o e = go inFront (eqb (getD keys id 0) k) refl
     where
       q : ℕ → Bool
       q = level keys k
 
-      go : (b : Bool) → eqb (getD keys id 0) k ≡ b → those q (behind keys id l) ≡ those q l ++ those q ((id + 1) ∷ [])
-      go true t =
-          let own = subst (λ (j : ℕ). those (level keys j) (behind keys id l) ≡ those (level keys j) l ++ ((id + 1) ∷ [])) (eqb-true (getD keys id 0) k t) (behind-last id o e) in
-          own ∙ ap (λ (r : List ℕ). those q l ++ r) (sym (those-take q (id + 1) [] (of-level true t)))
-      go false t =
-          those-opened q refl _ (id + 1) l (of-level false t) (nothing-falls keys (getD keys id 0) (id + 1) l e)
-          ∙ sym (append-nil (those q l)) ∙ ap (λ (r : List ℕ). those q l ++ r) (sym (those-skip q (id + 1) [] (of-level false t)))
+      own : (j : ℕ) → getD keys id 0 ≡ j → (b : Bool) → those (level keys j) (entered b keys id l) ≡ cond b ((id + 1) ∷ those (level keys j) l) (those (level keys j) l ++ ((id + 1) ∷ []))
+      own j p true = subst (λ (j : ℕ). those (level keys j) (entered true keys id l) ≡ (id + 1) ∷ those (level keys j) l) p (before-first keys id l e)
+      own j p false = subst (λ (j : ℕ). those (level keys j) (entered false keys id l) ≡ those (level keys j) l ++ ((id + 1) ∷ [])) p (behind-last id o e)
+
+      others : (b : Bool) → level keys k (id + 1) ≡ false → those q (entered b keys id l) ≡ those q l
+      others b t = those-opened q refl _ (id + 1) l t (nothing-falls keys (limit b (getD keys id 0)) (id + 1) l e)
+
+      go : (b a : Bool) → eqb (getD keys id 0) k ≡ a → those q (entered b keys id l) ≡ lined b (those q l)
+      go true true t = own k (eqb-true (getD keys id 0) k t) true ∙ ap (λ (r : List ℕ). r ++ those q l) (sym (those-take q (id + 1) [] (of-level true t)))
+      go false true t = own k (eqb-true (getD keys id 0) k t) false ∙ ap (λ (r : List ℕ). those q l ++ r) (sym (those-take q (id + 1) [] (of-level true t)))
+      go true false t = others true (of-level false t) ∙ ap (λ (r : List ℕ). r ++ those q l) (sym (those-skip q (id + 1) [] (of-level false t)))
+      go false false t =
+          others false (of-level false t) ∙ sym (append-nil (those q l)) ∙ ap (λ (r : List ℕ). those q l ++ r) (sym (those-skip q (id + 1) [] (of-level false t)))
 
 -- ---- an insertion
 
@@ -121,29 +130,29 @@ module _ (keys : List ℕ) (id : ℕ) (l : List ℕ) where
 
   -- As many slots.
   pub inserted-length : length (inserted keys id l) ≡ length l
-  inserted-length = inserted-by (λ b m. length m ≡ length l) (λ e. length-behind keys id l) refl
+  inserted-length = inserted-by (λ b m. length m ≡ length l) (λ e. length-entered false keys id l) refl
 
   -- The id stands there once more where it enters, and each other as often.
   pub inserted-count : (u : ℕ) → (u ≡ 0 → ⊥) → count u (inserted keys id l) ≡ count u l + cond (made (insertAnswer keys id l)) (one u (id + 1)) 0
-  inserted-count u n = inserted-by (λ b m. count u m ≡ count u l + cond b (one u (id + 1)) 0) (λ e. omega (arith, count-behind u n keys id l (e .room))) (omega arith)
+  inserted-count u n = inserted-by (λ b m. count u m ≡ count u l + cond b (one u (id + 1)) 0) (λ e. omega (arith, count-entered u n false keys id l (e .room))) (omega arith)
 
   -- The others keep their order: any choice of slots that has neither the free ones nor this id among them.
   pub inserted-others : (q : ℕ → Bool) → q 0 ≡ false → q (id + 1) ≡ false → those q (inserted keys id l) ≡ those q l
   inserted-others q f h =
-      inserted-by (λ b m. those q m ≡ those q l) (λ e. those-opened q f _ (id + 1) l h (nothing-falls keys (getD keys id 0) (id + 1) l (e .room))) refl
+      inserted-by (λ b m. those q m ≡ those q l) (λ e. those-opened q f _ (id + 1) l h (nothing-falls keys (limit false (getD keys id 0)) (id + 1) l (e .room))) refl
 
   -- Order stays.
   pub inserted-ordered : Ordered keys l → Ordered keys (inserted keys id l)
-  inserted-ordered o = inserted-by (λ b m. Ordered keys m) (λ e. behind-ordered id o) o
+  inserted-ordered o = inserted-by (λ b m. Ordered keys m) (λ e. entered-ordered false id o) o
 
   -- A whole queue stays whole.
   pub inserted-whole : Whole keys l → Whole keys (inserted keys id l)
-  inserted-whole w = inserted-by (λ b m. Whole keys m) (λ e. behind-whole id w (e .inside) (e .absent) (e .room)) w
+  inserted-whole w = inserted-by (λ b m. Whole keys m) (λ e. entered-whole false id w (e .inside) (e .absent) (e .room)) w
 
   -- Each level is as it was, and who enters comes last of its own.
   pub inserted-level : (k : ℕ) → Ordered keys l → those (level keys k) (inserted keys id l) ≡ those (level keys k) l ++ those (level keys k) (newly (insertAnswer keys id l) id)
   unfolding those
-  inserted-level k o = inserted-by (λ b m. those (level keys k) m ≡ those (level keys k) l ++ those (level keys k) (cond b ((id + 1) ∷ []) [])) (λ e. behind-level keys k id o (e .room)) (sym (append-nil _))
+  inserted-level k o = inserted-by (λ b m. those (level keys k) m ≡ those (level keys k) l ++ those (level keys k) (cond b ((id + 1) ∷ []) [])) (λ e. entered-level keys k id false o (e .room)) (sym (append-nil _))
 
   -- The slots stay bytes.
   pub inserted-bytes : Bytes l → Bytes (inserted keys id l)
@@ -151,7 +160,7 @@ module _ (keys : List ℕ) (id : ℕ) (l : List ℕ) where
 
   -- To remove who has entered gives the queue back.
   pub inserted-undone : Ordered keys l → made (insertAnswer keys id l) ≡ true → without id (inserted keys id l) ≡ l
-  inserted-undone o = inserted-by (λ b m. b ≡ true → without id m ≡ l) (λ e h. without-behind id o (e .room) (e .absent)) (λ h. absurd (false≢true h))
+  inserted-undone o = inserted-by (λ b m. b ≡ true → without id m ≡ l) (λ e h. without-entered false id o (e .room) (e .absent)) (λ h. absurd (false≢true h))
 
 -- ---- a removal; `without-whole`, `without-ordered` and `length-without` have no premise of its own either
 
@@ -189,42 +198,42 @@ module _ (id : ℕ) (l : List ℕ) where
 
 -- ---- a move
 
-module _ (keys : List ℕ) (id : ℕ) (l : List ℕ) where
-  movedIn-by : (P : Bool → List ℕ → Type 0) → (stands (id + 1) l ≡ true → P true (moved keys id l)) → ((known keys id ≡ true → stands (id + 1) l ≡ false) → P false l)
-      → P (made (moveAnswer keys id l)) (movedIn keys id l)
-  unfolding movedIn moveAnswer after
-  movedIn-by P done left = go (known keys id) refl (stands (id + 1) l) refl
+module _ (inFront : Bool) (keys : List ℕ) (id : ℕ) (l : List ℕ) where
+  replacedIn-by : (P : Bool → List ℕ → Type 0) → (stands (id + 1) l ≡ true → P true (replaced inFront keys id l)) → ((known keys id ≡ true → stands (id + 1) l ≡ false) → P false l)
+      → P (made (moveAnswer keys id l)) (replacedIn inFront keys id l)
+  unfolding replacedIn moveAnswer after
+  replacedIn-by P done left = go (known keys id) refl (stands (id + 1) l) refl
     where
       answer : Bool → Bool → Answer
       answer k a = cond (not k) BeyondKeys (cond a Done NotThere)
 
-      go : (k : Bool) → known keys id ≡ k → (a : Bool) → stands (id + 1) l ≡ a → P (made (answer k a)) (after (answer k a) (moved keys id l) l)
+      go : (k : Bool) → known keys id ≡ k → (a : Bool) → stands (id + 1) l ≡ a → P (made (answer k a)) (after (answer k a) (replaced inFront keys id l) l)
       go false d a e = left (λ h. absurd (false≢true (sym d ∙ h)))
       go true d true e = done e
       go true d false e = left (λ h. e)
 
   -- A refusal leaves the queue as it came.
-  pub movedIn-refused : made (moveAnswer keys id l) ≡ false → movedIn keys id l ≡ l
-  movedIn-refused = movedIn-by (λ b m. b ≡ false → m ≡ l) (λ e h. absurd (true≢false h)) (λ e h. refl)
+  pub replacedIn-refused : made (moveAnswer keys id l) ≡ false → replacedIn inFront keys id l ≡ l
+  replacedIn-refused = replacedIn-by (λ b m. b ≡ false → m ≡ l) (λ e h. absurd (true≢false h)) (λ e h. refl)
 
   -- As many slots.
-  pub movedIn-length : length (movedIn keys id l) ≡ length l
-  movedIn-length = movedIn-by (λ b m. length m ≡ length l) (λ e. length-moved keys id l) (λ e. refl)
+  pub replacedIn-length : length (replacedIn inFront keys id l) ≡ length l
+  replacedIn-length = replacedIn-by (λ b m. length m ≡ length l) (λ e. length-replaced inFront keys id l) (λ e. refl)
 
   -- Each id stands there as often.
-  pub movedIn-count : (u : ℕ) → (u ≡ 0 → ⊥) → count u (movedIn keys id l) ≡ count u l
-  movedIn-count u n = movedIn-by (λ b m. count u m ≡ count u l) (λ e. count-moved u n keys id l e) (λ e. refl)
+  pub replacedIn-count : (u : ℕ) → (u ≡ 0 → ⊥) → count u (replacedIn inFront keys id l) ≡ count u l
+  replacedIn-count u n = replacedIn-by (λ b m. count u m ≡ count u l) (λ e. count-replaced u n inFront keys id l e) (λ e. refl)
 
   -- The others keep their order.
-  pub movedIn-others : (q : ℕ → Bool) → q 0 ≡ false → q (id + 1) ≡ false → those q (movedIn keys id l) ≡ those q l
-  movedIn-others q f h = movedIn-by (λ b m. those q m ≡ those q l) there (λ e. refl)
+  pub replacedIn-others : (q : ℕ → Bool) → q 0 ≡ false → q (id + 1) ≡ false → those q (replacedIn inFront keys id l) ≡ those q l
+  replacedIn-others q f h = replacedIn-by (λ b m. those q m ≡ those q l) there (λ e. refl)
     where
-      there : stands (id + 1) l ≡ true → those q (moved keys id l) ≡ those q l
-      there e = those-opened q f _ (id + 1) (without id l) h (nothing-falls keys (getD keys id 0) (id + 1) (without id l) (without-free id l e)) ∙ removed-others id l q f h
+      there : stands (id + 1) l ≡ true → those q (replaced inFront keys id l) ≡ those q l
+      there e = those-opened q f _ (id + 1) (without id l) h (nothing-falls keys (limit inFront (getD keys id 0)) (id + 1) (without id l) (without-free id l e)) ∙ removed-others id l q f h
 
   -- The slots stay bytes.
-  pub movedIn-bytes : Bytes l → Bytes (movedIn keys id l)
-  movedIn-bytes b = movedIn-by (λ _ m. Bytes m) (λ e. all-opened _ (id + 1) (stands-all (id + 1) e b) (all-closed _ (omega arith) b)) (λ e. b)
+  pub replacedIn-bytes : Bytes l → Bytes (replacedIn inFront keys id l)
+  replacedIn-bytes b = replacedIn-by (λ _ m. Bytes m) (λ e. all-opened _ (id + 1) (stands-all (id + 1) e b) (all-closed _ (omega arith) b)) (λ e. b)
 
 -- Another id of the level k than the one in v.
 abbrev pub peer : List ℕ → ℕ → ℕ → ℕ → Bool
@@ -248,7 +257,7 @@ module _ (keys : List ℕ) (k v : ℕ) where
       ∙ ap (λ (r : List ℕ). cond (peer keys k v x) (x ∷ r) r) (peers xs (omega arith))
 
 -- A queue that was whole under the old keys, where the moved id alone has another key now.
-module _ (old keys : List ℕ) (id : ℕ) (l : List ℕ) (w : Whole old l) (k : length keys ≡ length old) (agree : Agree old keys (id + 1)) (small : Bytes l) where
+module _ (inFront : Bool) (old keys : List ℕ) (id : ℕ) (l : List ℕ) (w : Whole old l) (k : length keys ≡ length old) (agree : Agree old keys (id + 1)) (small : Bytes l) where
   -- Who is refused does not stand there.
   absent : (known keys id ≡ true → stands (id + 1) l ≡ false) → stands (id + 1) l ≡ false
   absent h = go (stands (id + 1) l) refl
@@ -261,16 +270,19 @@ module _ (old keys : List ℕ) (id : ℕ) (l : List ℕ) (w : Whole old l) (k : 
           sym e ∙ h (rw (lt-ltb id 255 fits) (lt-ltb id (length keys) inside))
 
   -- It is whole under the new keys, whatever is answered.
-  pub movedIn-whole : Whole keys (movedIn keys id l)
-  movedIn-whole = movedIn-by keys id l (λ b m. Whole keys m) (λ e. moved-whole keys id w k agree e) (λ h. same (absent h))
+  pub replacedIn-whole : Whole keys (replacedIn inFront keys id l)
+  replacedIn-whole = replacedIn-by inFront keys id l (λ b m. Whole keys m) (λ e. replaced-whole inFront keys id w k agree e) (λ h. same (absent h))
     where
       same : stands (id + 1) l ≡ false → Whole keys l
       same e = record { ordered = ordered-agree old keys (id + 1) agree (count-stands (id + 1) l e) (w .ordered); within = all-map (λ v p. omega arith) (w .within); once = w .once }
 
-  -- Each level has its others as they were, and who moves comes last of its own.
-  pub movedIn-level : (k : ℕ) → those (level keys k) (movedIn keys id l) ≡ those (peer keys k (id + 1)) l ++ those (level keys k) (newly (moveAnswer keys id l) id)
+  -- Each level has its others as they were, and who moves comes before those of its own, or else behind them.
+  pub replacedIn-level : (k : ℕ) → those (level keys k) (replacedIn inFront keys id l)
+      ≡ cond inFront (those (level keys k) (newly (moveAnswer keys id l) id) ++ those (peer keys k (id + 1)) l) (those (peer keys k (id + 1)) l ++ those (level keys k) (newly (moveAnswer keys id l) id))
   unfolding those
-  movedIn-level k = movedIn-by keys id l (λ b m. those q m ≡ those p l ++ those q (cond b ((id + 1) ∷ []) [])) there (λ h. refused (absent h))
+  replacedIn-level k =
+      replacedIn-by inFront keys id l (λ b m. those q m ≡ cond inFront (those q (cond b ((id + 1) ∷ []) []) ++ those p l) (those p l ++ those q (cond b ((id + 1) ∷ []) []))) there
+      (λ h. refused inFront (absent h))
     where
       q : ℕ → Bool
       q = level keys k
@@ -278,15 +290,16 @@ module _ (old keys : List ℕ) (id : ℕ) (l : List ℕ) (w : Whole old l) (k : 
       p : ℕ → Bool
       p = peer keys k (id + 1)
 
-      there : stands (id + 1) l ≡ true → those q (moved keys id l) ≡ those p l ++ those q ((id + 1) ∷ [])
+      there : stands (id + 1) l ≡ true → those q (replaced inFront keys id l) ≡ lined keys k id inFront (those p l)
       there e =
           let gone : count (id + 1) (without id l) ≡ 0 = omega (arith, count-without (id + 1) (λ z. omega arith) id l, one-same (id + 1), w .once (id + 1) (λ z. omega arith)) in
           let others = peers keys k (id + 1) (without id l) gone ∙ removed-others id l p refl (rw (eq-eqb (id + 1) (id + 1) refl, and-false (not (eqb (id + 1) 0)))) in
-          behind-level keys k id (ordered-agree old keys (id + 1) agree gone (without-ordered id (w .ordered))) (without-free id l e)
-          ∙ ap (λ (r : List ℕ). r ++ those q ((id + 1) ∷ [])) others
+          entered-level keys k id inFront (ordered-agree old keys (id + 1) agree gone (without-ordered id (w .ordered))) (without-free id l e)
+          ∙ ap (lined keys k id inFront) others
 
-      refused : stands (id + 1) l ≡ false → those q l ≡ those p l ++ []
-      refused e = peers keys k (id + 1) l (count-stands (id + 1) l e) ∙ sym (append-nil (those p l))
+      refused : (b : Bool) → stands (id + 1) l ≡ false → those q l ≡ cond b ([] ++ those p l) (those p l ++ [])
+      refused true e = peers keys k (id + 1) l (count-stands (id + 1) l e)
+      refused false e = peers keys k (id + 1) l (count-stands (id + 1) l e) ∙ sym (append-nil (those p l))
 
 -- ---- who is first
 

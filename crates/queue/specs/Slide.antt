@@ -9,7 +9,7 @@ use lib.Dec.{eqb, ltb}
 use lib.ListN.{length, getD, take, drop, drop-of-length-le}
 use lib.Seq.{take-all}
 use borrow.Author.Tests.{eq-eqb, ne-eqb, lt-ltb, le-ltb, ltb-true, ltb-false}
-use Rattle.queue.specs.Slots.{firstAt, same, later, placeOf, placeBehind, push, pull, opened, closed, behind, moved}
+use Rattle.queue.specs.Slots.{firstAt, same, from, placeOf, placeFrom, push, pull, opened, closed, limit, entered, replaced}
 
 -- The slots without the one at `from`.
 unfoldable pub lifted : ℕ → List ℕ → List ℕ
@@ -215,39 +215,40 @@ packed-first v (x ∷ xs) h = go (eqb x v) (eqb x 0) h (packed-first v xs)
 
 -- ---- an id that moves
 
-module _ (keys : List ℕ) (k from to : ℕ) (l : List ℕ) (within : from < length l) (is : to ≡ placeBehind keys k (lifted from l)) where
-  later-free : later keys k 0 ≡ true
-  unfolding later
-  later-free = refl
+module _ (keys : List ℕ) (n at to : ℕ) (l : List ℕ) (within : at < length l) (is : to ≡ placeFrom keys n (lifted at l)) where
+  from-free : from keys n 0 ≡ true
+  unfolding from
+  from-free = refl
 
   -- The place is one of the slots, and the same as once the slot is closed up.
   pub to-within : to < length l
-  to-within = omega (arith, first-most (later keys k) (lifted from l), length-lifted from l within)
+  to-within = omega (arith, first-most (from keys n) (lifted at l), length-lifted at l within)
 
-  pub to-closed : to ≡ placeBehind keys k (closed from l)
-  to-closed = is ∙ sym (first-closed (later keys k) later-free from l within)
+  pub to-closed : to ≡ placeFrom keys n (closed at l)
+  to-closed = is ∙ sym (first-closed (from keys n) from-free at l within)
 
   -- THE LAW: where no slot from the new place up to the old one is free, a slide between the two is what a removal and an insertion leave.
-  pub moved-slid : (v : ℕ) → from ≤ to + firstAt (same 0) (drop to l) → slid from to v l ≡ opened (placeBehind keys k (closed from l)) v (closed from l)
-  moved-slid v f = rw (← to-closed) (sym (go (ltb to from) refl))
+  pub moved-slid : (v : ℕ) → at ≤ to + firstAt (same 0) (drop to l) → slid at to v l ≡ opened (placeFrom keys n (closed at l)) v (closed at l)
+  moved-slid v f = rw (← to-closed) (sym (go (ltb to at) refl))
     where
-      go : (b : Bool) → ltb to from ≡ b → opened to v (closed from l) ≡ slid from to v l
+      go : (b : Bool) → ltb to at ≡ b → opened to v (closed at l) ≡ slid at to v l
       go false t =
-          let h : from ≤ firstAt (later keys k) (lifted from l) = omega (arith, ltb-false to from t) in
-          rw (← is) at (slid-on (later keys k) later-free from v l within h)
-      go true t = let h : to < from = ltb-true to from t in slid-back from to v l within (omega arith) f
+          let h : at ≤ firstAt (from keys n) (lifted at l) = omega (arith, ltb-false to at t) in
+          rw (← is) at (slid-on (from keys n) from-free at v l within h)
+      go true t = let h : to < at = ltb-true to at t in slid-back at to v l within (omega arith) f
 
 module _ (id at : ℕ) (l : List ℕ) (e : at ≡ packedAt (id + 1) l) (h : at < length l) where
   -- An id that is found before any free slot is found in its place.
   pub packed-found : at ≡ placeOf id l
   packed-found = e ∙ packed-first (id + 1) l (omega arith) .0
 
-  -- A slide to its new place is then what `moved` leaves, and that place is a slot.
-  pub moved-packed : (keys : List ℕ) (to : ℕ) → to ≡ placeBehind keys (getD keys id 0) (lifted at l) → (to < length l) × (slid at to (id + 1) l ≡ moved keys id l)
-  moved-packed keys to is =
+  -- A slide to its new place is then what `replaced` leaves, and that place is a slot.
+  pub moved-packed : (inFront : Bool) (keys : List ℕ) (to : ℕ) → to ≡ placeFrom keys (limit inFront (getD keys id 0)) (lifted at l)
+      → (to < length l) × (slid at to (id + 1) l ≡ replaced inFront keys id l)
+  moved-packed inFront keys to is =
       let none : at ≤ to + firstAt (same 0) (drop to l) = omega (arith, packed-first (id + 1) l (omega arith) .1, first-drop (same 0) to l) in (
         to-within keys _ at to l h is,
-        moved-slid keys _ at to l h is (id + 1) none ∙ ap (λ (n : ℕ). behind keys id (closed n l)) packed-found,
+        moved-slid keys _ at to l h is (id + 1) none ∙ ap (λ (n : ℕ). entered inFront keys id (closed n l)) packed-found,
       )
 
 -- The condition is needed: with a free slot between, the two differ.

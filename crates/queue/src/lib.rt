@@ -4,10 +4,10 @@
 ghost use mathlib.Core.Path.{_≡_};
 ghost use lib.ListN.{length, getD, drop};
 ghost use Prim.Native.Nat.{_+_, _<_};
-ghost use Rattle.queue.specs.Slots.{firstAt, same, later, placeBehind, opened, fallen, closed, behind, without, moved};
+ghost use Rattle.queue.specs.Slots.{firstAt, same, from, placeBehind, placeBefore, opened, fallen, closed, entered, without, replaced};
 ghost use Rattle.queue.specs.Slide.{packedAt};
 ghost use Rattle.queue.specs.Order.{mayPrecede, fits, isOrdered};
-ghost use Rattle.queue.specs.Answers.{headOf, foundIn, known, insertAnswer, removeAnswer, moveAnswer, inserted, movedIn};
+ghost use Rattle.queue.specs.Answers.{headOf, foundIn, known, insertAnswer, removeAnswer, moveAnswer, inserted, replacedIn, movedIn, raisedIn};
 
 mod shifts;
 pub mod slides;
@@ -67,7 +67,7 @@ pub fn find(ids: &[u8], id: u8) -> Found
 
 // Whether a slot is free, or its id has a greater key.
 fn is_later(keys: &[u8], key: u8, v: u8) -> bool
-    ensures { λ r. ⌜ r ≡ later (now (keys .entry)) key v ⌝ }
+    ensures { λ r. ⌜ r ≡ from (now (keys .entry)) (key + 1) v ⌝ }
 {
     if v == 0 {
         return true;
@@ -89,6 +89,16 @@ pub fn place_behind(ids: &[u8], keys: &[u8], key: u8) -> usize
         i += 1;
     }
     i
+}
+
+// Where it goes before them: behind those of the keys before its own, and in front where there is none.
+pub fn place_before(ids: &[u8], keys: &[u8], key: u8) -> usize
+    ensures { λ r. ⌜ r ≡ placeBefore (now (keys .entry)) key (now (ids .entry)) ⌝ }
+{
+    if key == 0 {
+        return 0;
+    }
+    place_behind(ids, keys, key - 1)
 }
 
 // So many slots are shifted one by one: a short queue is done by then, and nine at a time gain on a longer one. At the front one look tells
@@ -173,12 +183,12 @@ fn is_known(keys: &[u8], id: u8) -> bool
     (id < 255) & ((id as usize) < keys.len())
 }
 
-fn put_behind(ids: &mut [u8], keys: &[u8], id: u8)
+fn enter(ids: &mut [u8], keys: &[u8], id: u8, ahead: bool)
     requires { ⌜ id < 255 ⌝ }
-    ensures { λ _. ⌜ now (ids .exit) ≡ behind (now (keys .entry)) id (now (ids .entry)) ⌝ }
+    ensures { λ _. ⌜ now (ids .exit) ≡ entered ahead (now (keys .entry)) id (now (ids .entry)) ⌝ }
 {
     let key = slot_or_free(keys, id as usize);
-    let at = place_behind(ids, keys, key);
+    let at = slides::place_at(ids, keys, key, ahead);
     open(ids, at, id + 1);
 }
 
@@ -197,7 +207,7 @@ pub fn insert(ids: &mut [u8], keys: &[u8], id: u8) -> Answer
     if ids.len() <= free {
         return Answer::Full;
     }
-    put_behind(ids, keys, id);
+    enter(ids, keys, id, false);
     Answer::Done
 }
 
@@ -218,27 +228,26 @@ pub fn remove(ids: &mut [u8], id: u8) -> Answer
     Answer::Done
 }
 
-// The slot `at`, where the id stands with no free slot before, goes, and the id comes behind its equals: only the slots between move.
-fn move_from(ids: &mut [u8], keys: &[u8], at: usize, id: u8)
+// The slot `at`, where the id stands with no free slot before, goes, and the id comes before its equals or behind them: only the slots between move.
+fn move_from(ids: &mut [u8], keys: &[u8], at: usize, id: u8, ahead: bool)
     requires { ⌜ (id < 255) × (at < length (now ids)) × (at ≡ packedAt (id + 1) (now ids)) ⌝ }
-    ensures { λ _. ⌜ now (ids .exit) ≡ moved (now (keys .entry)) id (now (ids .entry)) ⌝ }
+    ensures { λ _. ⌜ now (ids .exit) ≡ replaced ahead (now (keys .entry)) id (now (ids .entry)) ⌝ }
 {
     let key = slot_or_free(keys, id as usize);
-    let to = slides::place_without(ids, keys, key, at);
+    let to = slides::place_without(ids, keys, key, ahead, at);
     slides::slide(ids, at, to, id + 1);
 }
 
-// The id, whose key has changed, leaves and goes behind its equals at the new level. Refused: an id without a key, or 255; one
-// that does not stand there.
-pub fn move_behind(ids: &mut [u8], keys: &[u8], id: u8) -> Answer
-    ensures { λ r. ⌜ (r ≡ moveAnswer (now (keys .entry)) id (now (ids .entry))) × (now (ids .exit) ≡ movedIn (now (keys .entry)) id (now (ids .entry))) ⌝ }
+// The id leaves and goes before its equals or behind them.
+fn move_anew(ids: &mut [u8], keys: &[u8], id: u8, ahead: bool) -> Answer
+    ensures { λ r. ⌜ (r ≡ moveAnswer (now (keys .entry)) id (now (ids .entry))) × (now (ids .exit) ≡ replacedIn ahead (now (keys .entry)) id (now (ids .entry))) ⌝ }
 {
     if !is_known(keys, id) {
         return Answer::BeyondKeys;
     }
     let near = slides::find_packed(ids, id);
     if near < ids.len() {
-        move_from(ids, keys, near, id);
+        move_from(ids, keys, near, id, ahead);
         return Answer::Done;
     }
     // No packed queue that has the id comes here: with a free slot before it one slide would leave something else.
@@ -247,8 +256,23 @@ pub fn move_behind(ids: &mut [u8], keys: &[u8], id: u8) -> Answer
         return Answer::NotThere;
     }
     close(ids, at);
-    put_behind(ids, keys, id);
+    enter(ids, keys, id, ahead);
     Answer::Done
+}
+
+// The id, whose key has changed, leaves and goes behind its equals at the new level. Refused: an id without a key, or 255; one
+// that does not stand there.
+pub fn move_behind(ids: &mut [u8], keys: &[u8], id: u8) -> Answer
+    ensures { λ r. ⌜ (r ≡ moveAnswer (now (keys .entry)) id (now (ids .entry))) × (now (ids .exit) ≡ movedIn (now (keys .entry)) id (now (ids .entry))) ⌝ }
+{
+    move_anew(ids, keys, id, false)
+}
+
+// The same, before its equals.
+pub fn move_before(ids: &mut [u8], keys: &[u8], id: u8) -> Answer
+    ensures { λ r. ⌜ (r ≡ moveAnswer (now (keys .entry)) id (now (ids .entry))) × (now (ids .exit) ≡ raisedIn (now (keys .entry)) id (now (ids .entry))) ⌝ }
+{
+    move_anew(ids, keys, id, true)
 }
 
 // Whether the slot v may stand before the slot w: w is free, or its key is no smaller.

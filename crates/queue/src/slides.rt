@@ -1,9 +1,9 @@
 // A change of place in one slide: where an id stands, where it goes, and the slots between the two moved by one. For a caller whose slots and
-// keys are parts of one slice; `move_behind` is made of the same.
+// keys are parts of one slice; `move_behind` and `move_before` are made of the same.
 ghost use mathlib.Core.Path.{_≡_};
 ghost use lib.ListN.{length};
 ghost use Prim.Native.Nat.{_+_, _≤_, _<_};
-ghost use Rattle.queue.specs.Slots.{firstAt, same, placeBehind};
+ghost use Rattle.queue.specs.Slots.{firstAt, same, placeFrom, limit};
 ghost use Rattle.queue.specs.Slide.{lifted, slid, slidWithin, packedAt};
 
 // The first slot that holds v, or the length.
@@ -40,18 +40,28 @@ pub fn find_packed(ids: &[u8], id: u8) -> usize
     i
 }
 
-// Where an id with this key goes behind its equals, with the slot `at` not counted.
-pub fn place_without(ids: &[u8], keys: &[u8], key: u8, at: usize) -> usize
-    ensures { λ r. ⌜ r ≡ placeBehind (now (keys .entry)) key (lifted at (now (ids .entry))) ⌝ }
+// Where an id with this key goes before its equals, or behind them.
+pub fn place_at(ids: &[u8], keys: &[u8], key: u8, ahead: bool) -> usize
+    ensures { λ r. ⌜ r ≡ placeFrom (now (keys .entry)) (limit ahead key) (now (ids .entry)) ⌝ }
+{
+    if ahead {
+        return crate::place_before(ids, keys, key);
+    }
+    crate::place_behind(ids, keys, key)
+}
+
+// The same, with the slot `at` not counted.
+pub fn place_without(ids: &[u8], keys: &[u8], key: u8, ahead: bool, at: usize) -> usize
+    ensures { λ r. ⌜ r ≡ placeFrom (now (keys .entry)) (limit ahead key) (lifted at (now (ids .entry))) ⌝ }
 {
     if ids.len() <= at {
-        return crate::place_behind(ids, keys, key);
+        return place_at(ids, keys, key, ahead);
     }
-    let front = crate::place_behind(&ids[0..at], keys, key);
+    let front = place_at(&ids[0..at], keys, key, ahead);
     if front < at {
         return front;
     }
-    let rest = crate::place_behind(&ids[at + 1..], keys, key);
+    let rest = place_at(&ids[at + 1..], keys, key, ahead);
     at + rest
 }
 

@@ -3,8 +3,8 @@ use mathlib.Core.Path.{_≡_, refl}
 use mathlib.Core.Bool.{true, false}
 use mathlib.Core.List.{List, [], _∷_, _++_}
 use Prim.Native.Nat.{ℕ, _+_, _^_}
-use lib.ListN.{replicate}
-use Rattle.queue.specs.Slots.{firstAt, later, push, pull, opened, closed}
+use lib.ListN.{replicate, take}
+use Rattle.queue.specs.Slots.{firstAt, from, push, pull, opened, closed}
 use Rattle.queue.specs.Order.{count, mayPrecede, fits, isOrdered}
 use Rattle.rules.specs.Sound.{each, isShaped, marksIn, isTaskInRange, isNoTask, isNoSemaphore, isNoMutex, isNoGroup, isNoChannel, asksIn, isSoundTask, isSoundSemaphore, isSoundMutex, isSoundGroup, isSoundChannel, mayWait, isSoundWait, eachOf, isSoundObjects, isSoundReady, isSoundQueues, isWorkedOut, isSoundNumbers, isSoundWithin, isSoundRuns, isSound}
 use Rattle.rules.specs.Messages.{present, laid, holding}
@@ -12,12 +12,12 @@ use Rattle.rules.specs.Family.{ofState, placeOf}
 use Rattle.rules.specs.Sizes.{mostCount, delayed, plain, timedOut}
 use Rattle.rules.specs.Chain.{leads, smallest, fresh}
 use Rattle.rules.specs.Walk.{walkOn}
-use Rattle.rules.specs.Table.{Table, freshTable, taskOf, isAble, works, groupOf, semaphoreQueue, firstIn, written, withTick, holderOf}
+use Rattle.rules.specs.Table.{Table, freshTable, taskOf, isAble, works, groupOf, queueOf, ableQueue, semaphoreQueue, firstIn, written, withTick, holderOf}
 use lib.Count.{leadingZeros}
 use Rattle.rules.specs.Ready.{bitOf, isSet, withLevel, withoutLevel, firstLevel, levelsBelow, beside, readyWithout, readyWith}
-use Rattle.rules.specs.Move.{leave, join, stays, put, rotate, next, freshIn, ended, endedAll, chosen, peerBelow}
+use Rattle.rules.specs.Move.{leave, join, stays, isRaised, put, rotate, next, freshIn, ended, endedAll, chosen, peerBelow}
 use Rattle.rules.specs.Quantum.{quantumOf, defaultAnswer, setDefault}
-use Rattle.rules.specs.Task.{createAnswer, create, suspendAnswer, suspend, resumeAnswer, resume}
+use Rattle.rules.specs.Task.{createAnswer, create, priorityAnswer, changePriority, suspendAnswer, suspend, resumeAnswer, resume}
 use Rattle.rules.specs.Time.{yieldAnswer, delayAnswer, delay, delayResumeAnswer}
 use Rattle.rules.specs.Lock.{lockAnswer, lock, unlockAnswer, unlock}
 use Rattle.rules.specs.Object.{objectCreateAnswer, objectAbortAnswer, blocked, waits, taken}
@@ -33,7 +33,7 @@ use Rattle.rules.specs.Step.{Outcome, answerTo, changeBy, toldBy, forInt
 use Rattle.rules.specs.Kinds.{toldIn, widths, ofKind, reading, spelled}
 use Rattle.rules.specs.Tape.{little, sum, numbers, bodyLength, callIn, decimal, runner, line, printedOf, printed, tape}
 use Rattle.rules.specs.declared.Call.{Call}
-use Rattle.rules.specs.declared.Call.the-variants.{TaskCreate, Suspend, Resume, Yield, Delay, DelayResume, Lock, Unlock, Tick, SetDefaultQuantum, SemaphoreCreate, SemaphoreWait, SemaphorePost, SemaphoreAbort, MutexCreate, MutexWait, MutexPost, MutexAbort, GroupCreate, GroupWait, GroupPost, GroupAbort, ChannelCreate, ChannelWait, ChannelPost, ChannelAbort, ChannelFlush}
+use Rattle.rules.specs.declared.Call.the-variants.{TaskCreate, ChangePriority, Suspend, Resume, Yield, Delay, DelayResume, Lock, Unlock, Tick, SetDefaultQuantum, SemaphoreCreate, SemaphoreWait, SemaphorePost, SemaphoreAbort, MutexCreate, MutexWait, MutexPost, MutexAbort, GroupCreate, GroupWait, GroupPost, GroupAbort, ChannelCreate, ChannelWait, ChannelPost, ChannelAbort, ChannelFlush}
 
 -- ---- calls that tasks make, one after another, on sound tables
 
@@ -167,6 +167,27 @@ asleep n = after three-able (many n (Delay 9))
 abbrev first-of : Table → ℕ
 first-of t = firstLevel (t .ready)
 
+-- The decoder, task 3 of level 20, holds mutex 0, and task 4 of that level is able; the output, task 1, and a subtitle task, 2, are able at 5. Then the
+-- output waits for the mutex, and then the decoder posts it.
+abbrev pub subtitle-able : Table
+subtitle-able = after freshTable (TaskCreate 3 20 0 ∷ MutexCreate 0 ∷ wait 0 ∷ TaskCreate 4 20 0 ∷ TaskCreate 1 5 0 ∷ TaskCreate 2 5 0 ∷ [])
+
+abbrev output-waits : Table
+output-waits = after subtitle-able (wait 0 ∷ [])
+
+abbrev decoder-posts : Table
+decoder-posts = after output-waits (MutexPost 0 ∷ [])
+
+-- The decoder, which holds mutex 0, and the subtitle task wait for semaphore 0 when the output waits for the mutex.
+abbrev pub waiter-raised : Table
+waiter-raised =
+    after freshTable
+    (TaskCreate 3 20 0 ∷ MutexCreate 0 ∷ SemaphoreCreate 0 0 ∷ wait 0 ∷ SemaphoreWait 0 1 0 ∷ TaskCreate 2 5 0 ∷ SemaphoreWait 0 1 0 ∷ TaskCreate 1 5 0 ∷ wait 0 ∷ [])
+
+-- The first four of a queue.
+abbrev four : ℕ → Table → List ℕ
+four q t = take 4 (queueOf t q)
+
 -- Who runs after each of six ticks.
 abbrev six-ticks : Table → List ℕ
 six-ticks t = runs t (many 6 Tick)
@@ -248,9 +269,18 @@ pub record Bench : Type 0 where
   pub ready-runs : (three-able .running ≡ written 1) × (asleep 1 .running ≡ written 2) × (asleep 2 .running ≡ written 3) × (asleep 3 .running ≡ 0)
   -- Who is raised takes its bit along: of P2 task 3, which works at 5 and then at 7, where its base is 10.
   pub ready-raised : (p2-table .ready ≡ 2 ^ 58) × (after p2-table (MutexPost 0 ∷ []) .ready ≡ 2 ^ 58 + 2 ^ 56)
+  -- "A decoder raised to the output's level lines up behind a subtitle task, and the output waits for both": it goes before it now.
+  pub raised-in-front : (output-waits .running ≡ written 3) × (four ableQueue output-waits ≡ written 3 ∷ written 2 ∷ written 4 ∷ 0 ∷ [])
+  -- "in the able queue and in every wait queue"
+  pub raised-in-a-wait : (works-at waiter-raised 3 ≡ 5) × (four (semaphoreQueue 0) waiter-raised ≡ written 3 ∷ written 2 ∷ 0 ∷ 0 ∷ [])
+  -- whatever made it so: change priority takes the processor from an equal
+  pub raised-by-change : four ableQueue (after subtitle-able (ChangePriority 4 5 ∷ [])) ≡ written 4 ∷ written 1 ∷ written 2 ∷ written 3 ∷ []
+  -- "a lowered one goes behind as today. A new arrival still goes behind": the decoder behind task 4, the output behind the subtitle task
+  pub lowered-behind : (decoder-posts .running ≡ written 2) × (four ableQueue decoder-posts ≡ written 2 ∷ written 1 ∷ written 4 ∷ written 3 ∷ [])
+  pub arrived-behind : four ableQueue subtitle-able ≡ written 1 ∷ written 2 ∷ written 3 ∷ written 4 ∷ []
 
 pub bench : Bench
-unfolding firstAt later push pull opened closed leads smallest fresh walkOn freshTable isAble placeOf works leadingZeros bitOf isSet withLevel withoutLevel firstLevel levelsBelow beside readyWithout readyWith leave join stays put rotate holderOf next freshIn ended endedAll chosen peerBelow quantumOf defaultAnswer setDefault createAnswer create suspendAnswer suspend resumeAnswer resume yieldAnswer delayAnswer delay delayResumeAnswer lockAnswer lock unlockAnswer unlock objectCreateAnswer objectAbortAnswer blocked waits taken semaphore.create semaphore.waitAnswer semaphore.wait semaphore.postAnswer semaphore.post mutex.create mutex.waitAnswer mutex.wait mutex.postAnswer handed released mutex.post meeting isMet consumed woken group.create group.waitAnswer group.wait group.postAnswer group.post present laid holding delivered channel.createAnswer channel.create channel.waitAnswer channel.wait channel.postAnswer channel.post channel.flushAnswer channel.flush turned dueEnded dueBelow ticked answerTo changeBy toldBy forInterrupts answer effect serve toldIn widths ofKind reading spelled little sum numbers bodyLength callIn decimal runner line printedOf printed tape step count mayPrecede fits isOrdered each isShaped marksIn isTaskInRange isNoTask isNoSemaphore isNoMutex isNoGroup isNoChannel asksIn isSoundTask isSoundSemaphore isSoundMutex isSoundGroup isSoundChannel mayWait ofState eachOf isSoundWait isSoundObjects isSoundReady isSoundQueues isWorkedOut isSoundNumbers isSoundWithin isSoundRuns isSound after answers runs
+unfolding firstAt from push pull opened closed leads smallest fresh walkOn freshTable isAble placeOf works leadingZeros bitOf isSet withLevel withoutLevel firstLevel levelsBelow beside readyWithout readyWith leave join stays isRaised put rotate holderOf next freshIn ended endedAll chosen peerBelow quantumOf defaultAnswer setDefault createAnswer create priorityAnswer changePriority suspendAnswer suspend resumeAnswer resume yieldAnswer delayAnswer delay delayResumeAnswer lockAnswer lock unlockAnswer unlock objectCreateAnswer objectAbortAnswer blocked waits taken semaphore.create semaphore.waitAnswer semaphore.wait semaphore.postAnswer semaphore.post mutex.create mutex.waitAnswer mutex.wait mutex.postAnswer handed released mutex.post meeting isMet consumed woken group.create group.waitAnswer group.wait group.postAnswer group.post present laid holding delivered channel.createAnswer channel.create channel.waitAnswer channel.wait channel.postAnswer channel.post channel.flushAnswer channel.flush turned dueEnded dueBelow ticked answerTo changeBy toldBy forInterrupts answer effect serve toldIn widths ofKind reading spelled little sum numbers bodyLength callIn decimal runner line printedOf printed tape step count mayPrecede fits isOrdered each isShaped marksIn isTaskInRange isNoTask isNoSemaphore isNoMutex isNoGroup isNoChannel asksIn isSoundTask isSoundSemaphore isSoundMutex isSoundGroup isSoundChannel mayWait ofState eachOf isSoundWait isSoundObjects isSoundReady isSoundQueues isWorkedOut isSoundNumbers isSoundWithin isSoundRuns isSound after answers runs
 bench =
     record {
       p1 = refl;
@@ -299,4 +329,9 @@ bench =
       ready-first = (refl, refl, refl, refl);
       ready-runs = (refl, refl, refl, refl);
       ready-raised = (refl, refl);
+      raised-in-front = (refl, refl);
+      raised-in-a-wait = (refl, refl);
+      raised-by-change = refl;
+      lowered-behind = (refl, refl);
+      arrived-behind = refl;
     }

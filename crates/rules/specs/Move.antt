@@ -2,7 +2,7 @@
 use mathlib.Core.Bool.{Bool, true, false, cond, _&&_, not}
 use Prim.Native.Nat.{ℕ, zero, suc, _+_, _-_}
 use lib.Dec.{eqb, ltb, leb}
-use Rattle.queue.specs.Slots.{behind, without, moved}
+use Rattle.queue.specs.Slots.{entered, without, moved}
 use Rattle.rules.specs.Sizes.{taskCount, levelCount, waitsMutex, delayed, plain}
 use Rattle.rules.specs.Chain.{fresh}
 use Rattle.rules.specs.Walk.{walkOn}
@@ -20,26 +20,31 @@ leave q i t =
     let out = withReady word (withQueue q (without i (queueOf t q)) t) in
     cond (ltb q queueCount) out t
 
--- "Each is ordered by working priority, and among equals by arrival." Task i goes behind its equals in queue q, if there is such a queue.
-unfoldable pub join : ℕ → ℕ → Table → Table
-join q i t =
+-- "Each is ordered by working priority". Task i comes into queue q, if there is such a queue: before its equals, or else behind them.
+unfoldable pub join : Bool → ℕ → ℕ → Table → Table
+join inFront q i t =
     let word = cond (eqb q ableQueue) (readyWith i t) (t .ready) in
-    let into = withReady word (withQueue q (behind (works t) i (queueOf t q)) t) in
+    let into = withReady word (withQueue q (entered inFront (works t) i (queueOf t q)) t) in
     cond (ltb q queueCount) into t
 
 -- Whether place and working priority are as before.
 unfoldable pub stays : Task → Task → Bool
 stays old new = eqb (placeOf old) (placeOf new) && eqb (old .work) (new .work)
 
--- "Where a task's working priority changes while it stands in a queue, it goes behind its equals at the new level." "A task that
--- becomes able goes behind its equals." Task i becomes k: where its place and its working priority are as before no queue is
--- touched; else it leaves its queue and goes behind its equals in the other. (A number that is no task's changes nothing.)
+-- "A task whose working priority becomes more urgent is to go before its equals at the new level, in the able queue and in every wait queue; a
+-- lowered one goes behind as today. A new arrival still goes behind."
+unfoldable pub isRaised : Task → Task → Bool
+isRaised old new = eqb (placeOf old) (placeOf new) && ltb (new .work) (old .work)
+
+-- "A task that becomes able goes behind its equals." Task i becomes k: where its place and its working priority are as before no queue is touched;
+-- else it leaves its queue and comes into the other, before its equals where it is raised and else behind them. (A number that is no task's changes
+-- nothing.) Of several that one call raises each goes before its equals, so the last one raised stands first.
 unfoldable pub put : ℕ → Task → Table → Table
 put i k t =
     let isTask = ltb i taskCount in
     let isThere = stays (taskOf t i) k in
     let there = withTask i k t in
-    let elsewhere = join (placeOf k) i (withTask i k (leave (placeOf (taskOf t i)) i t)) in
+    let elsewhere = join (isRaised (taskOf t i) k) (placeOf k) i (withTask i k (leave (placeOf (taskOf t i)) i t)) in
     cond isTask (cond isThere there elsewhere) t
 
 -- "the caller goes behind its equals, left = quantum": the able task i, at the end of its turn.

@@ -7,7 +7,7 @@ use lib.Dec.{eqb, ltb}
 use lib.ListN.{getD}
 use lib.Seq.{map-set-same}
 use borrow.Author.Tests.{eq-eqb, ne-eqb, lt-ltb}
-use Rattle.queue.specs.Slots.{placeOf, behind, without}
+use Rattle.queue.specs.Slots.{placeOf, entered, without}
 use Rattle.queue.specs.Order.{level}
 use Rattle.rules.specs.declared.Task.{Task}
 use Rattle.rules.specs.Table.{Table, queueCount, ableQueue, taskOf, queueOf, works, noTask, withTask, withQueue, withReady, withWork}
@@ -23,8 +23,8 @@ unfoldable pub wordJoined : (q i : ℕ) → Table → ℕ
 wordJoined q i t = cond (eqb q ableQueue) (readyWith i t) (t .ready)
 
 -- A task of queue q whose working priority becomes p: it leaves with the old one, and joins with the new.
-unfoldable pub reworkedIn : (q i p : ℕ) → Table → Table
-reworkedIn q i p t = let u = leave q i t in join q i (withTask i (withWork p (taskOf u i)) u)
+unfoldable pub reworkedIn : Bool → (q i p : ℕ) → Table → Table
+reworkedIn ahead q i p t = let u = leave q i t in join ahead q i (withTask i (withWork p (taskOf u i)) u)
 
 module _ (q i : ℕ) (t : Table) where
   pub left-able : q ≡ ableQueue → wordLeft q i t ≡ readyWithout i t
@@ -47,9 +47,9 @@ module _ (q i : ℕ) (t : Table) where
   unfolding leave wordLeft
   leave-is h = rw (lt-ltb q queueCount h)
 
-  pub join-is : q < queueCount → join q i t ≡ withReady (wordJoined q i t) (withQueue q (behind (works t) i (queueOf t q)) t)
+  pub join-is : (ahead : Bool) → q < queueCount → join ahead q i t ≡ withReady (wordJoined q i t) (withQueue q (entered ahead (works t) i (queueOf t q)) t)
   unfolding join wordJoined
-  join-is h = rw (lt-ltb q queueCount h)
+  join-is ahead h = rw (lt-ltb q queueCount h)
 
 -- ---- what a task's leaving goes by: the working priorities, the queue and the word
 

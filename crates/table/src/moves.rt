@@ -3,11 +3,11 @@
 // that is the `put` of the rules. Where the working priority changes, the task leaves its level with the old one. A record is stored whole where
 // a task is created or deleted. `rotate` is the one other move, and stays within a level. And who runs.
 ghost use mathlib.Core.Path.{_≡_};
-ghost use mathlib.Core.Bool.{cond};
+ghost use mathlib.Core.Bool.{false, cond};
 ghost use Prim.Native.Nat.{_+_, _≤_, _<_};
 ghost use lib.Dec.{eqb};
 ghost use lib.ListN.{getD};
-ghost use Rattle.queue.specs.Slots.{placeOf as placeIn, placeBehind, behind, without, moved};
+ghost use Rattle.queue.specs.Slots.{placeOf as placeIn, placeFrom, limit, entered, without, moved, replaced};
 ghost use Rattle.queue.specs.Slide.{lifted, packedAt};
 ghost use Rattle.rules.specs.Sizes.{taskCount, levelCount};
 ghost use Rattle.rules.specs.Table.{queueCount, ableQueue, taskOf, queueOf, works, isAble, firstIn, noTask, withQueue};
@@ -108,42 +108,51 @@ pub fn leave_queue(s: &mut [u8], q: usize, i: usize)
     remove_in(s, q, i);
 }
 
-// Where task i goes in queue q: the queue and the keys are two parts of one slice.
-fn place_in(s: &[u8], q: usize, i: usize) -> usize
+// Where task i goes in queue q, before its equals or behind them: the queue and the keys are two parts of one slice.
+fn place_in(s: &[u8], q: usize, i: usize, ahead: bool) -> usize
     requires { ⌜ (i < taskCount) × (q < queueCount) × Image (now s) ⌝ }
-    ensures { λ r. ⌜ r ≡ placeBehind (works (view (now (s .entry)))) (getD (works (view (now (s .entry)))) i 0) (queueOf (view (now (s .entry))) q) ⌝ }
+    ensures { λ r. ⌜ r ≡ placeFrom (works (view (now (s .entry)))) (limit ahead (getD (works (view (now (s .entry)))) i 0)) (queueOf (view (now (s .entry))) q) ⌝ }
 {
     let a = layout::QUEUE + layout::SLOTS * q;
     let e = a + layout::SLOTS;
     let key = tasks::get_work(s, i);
-    queue::place_behind(
+    queue::slides::place_at(
         &s[a..e],
         &s[layout::WORK..layout::WORK + layout::TASKS],
         key,
+        ahead,
     )
 }
 
-// The slots of queue q with task i behind its equals.
-fn insert_in(s: &mut [u8], q: usize, i: usize)
+// The slots of queue q with task i before its equals, or behind them.
+fn insert_in(s: &mut [u8], q: usize, i: usize, ahead: bool)
     requires { ⌜ (i < taskCount) × (q < queueCount) × Image (now s) ⌝ }
-    ensures { λ _. ⌜ view (now (s .exit)) ≡ withQueue q (behind (works (view (now (s .entry)))) i (queueOf (view (now (s .entry))) q)) (view (now (s .entry))) ⌝ }
+    ensures { λ _. ⌜ view (now (s .exit)) ≡ withQueue q (entered ahead (works (view (now (s .entry)))) i (queueOf (view (now (s .entry))) q)) (view (now (s .entry))) ⌝ }
 {
     let a = layout::QUEUE + layout::SLOTS * q;
     let e = a + layout::SLOTS;
-    let at = place_in(s, q, i);
+    let at = place_in(s, q, i, ahead);
     queue::open(&mut s[a..e], at, i as u8 + 1);
 }
 
-// Task i goes behind its equals in queue q, if there is such a queue.
-pub fn join_queue(s: &mut [u8], q: usize, i: usize)
+// Task i goes before its equals in queue q, or behind them, if there is such a queue.
+fn enter_queue(s: &mut [u8], q: usize, i: usize, ahead: bool)
     requires { ⌜ (i < taskCount) × Image (now s) ⌝ }
-    ensures { λ _. ⌜ view (now (s .exit)) ≡ join q i (view (now (s .entry))) ⌝ }
+    ensures { λ _. ⌜ view (now (s .exit)) ≡ join ahead q i (view (now (s .entry))) ⌝ }
 {
     if layout::QUEUES <= q {
         return;
     }
-    insert_in(s, q, i);
+    insert_in(s, q, i, ahead);
     levels::add_in(s, q, i);
+}
+
+// Task i arrives in queue q, behind its equals.
+pub fn join_queue(s: &mut [u8], q: usize, i: usize)
+    requires { ⌜ (i < taskCount) × Image (now s) ⌝ }
+    ensures { λ _. ⌜ view (now (s .exit)) ≡ join false q i (view (now (s .entry))) ⌝ }
+{
+    enter_queue(s, q, i, false);
 }
 
 // Where task i stands in queue q, with no free slot before it, or SLOTS.
@@ -156,10 +165,10 @@ fn packed_in(s: &[u8], q: usize, i: usize) -> usize
     queue::slides::find_packed(&s[a..e], i as u8)
 }
 
-// Where task i goes in queue q, with the slot `at`, its own, not counted.
-fn place_again(s: &[u8], q: usize, i: usize, at: usize) -> usize
+// The same, with the slot `at`, its own, not counted.
+fn place_again(s: &[u8], q: usize, i: usize, at: usize, ahead: bool) -> usize
     requires { ⌜ (i < taskCount) × (q < queueCount) × Image (now s) ⌝ }
-    ensures { λ r. ⌜ r ≡ placeBehind (works (view (now (s .entry)))) (getD (works (view (now (s .entry)))) i 0) (lifted at (queueOf (view (now (s .entry))) q)) ⌝ }
+    ensures { λ r. ⌜ r ≡ placeFrom (works (view (now (s .entry)))) (limit ahead (getD (works (view (now (s .entry)))) i 0)) (lifted at (queueOf (view (now (s .entry))) q)) ⌝ }
 {
     let a = layout::QUEUE + layout::SLOTS * q;
     let e = a + layout::SLOTS;
@@ -168,34 +177,36 @@ fn place_again(s: &[u8], q: usize, i: usize, at: usize) -> usize
         &s[a..e],
         &s[layout::WORK..layout::WORK + layout::TASKS],
         key,
+        ahead,
         at,
     )
 }
 
-// The slots of queue q with task i behind its equals, from slot `at`, where it stands with no free slot before it. Only those between the two
-// places move.
-fn slide_in(s: &mut [u8], q: usize, i: usize, at: usize)
+// The slots of queue q with task i before its equals, or behind them, from slot `at`, where it stands with no free slot before it. Only those
+// between the two places move.
+fn slide_in(s: &mut [u8], q: usize, i: usize, at: usize, ahead: bool)
     requires { ⌜ (i < taskCount) × (q < queueCount) × (at < slotCount) × (at ≡ packedAt (i + 1) (queueOf (view (now s)) q)) × Image (now s) ⌝ }
-    ensures { λ _. ⌜ view (now (s .exit)) ≡ withQueue q (moved (works (view (now (s .entry)))) i (queueOf (view (now (s .entry))) q)) (view (now (s .entry))) ⌝ }
+    ensures { λ _. ⌜ view (now (s .exit)) ≡ withQueue q (replaced ahead (works (view (now (s .entry)))) i (queueOf (view (now (s .entry))) q)) (view (now (s .entry))) ⌝ }
 {
-    let to = place_again(s, q, i, at);
+    let to = place_again(s, q, i, at, ahead);
     let a = layout::QUEUE + layout::SLOTS * q;
     let e = a + layout::SLOTS;
     queue::slides::slide(&mut s[a..e], at, to, i as u8 + 1);
 }
 
-// The same from where it stands. With a free slot before it, as in no queue that is packed, a slide would leave something else.
+// The slots of queue q with task i behind its equals, from where it stands. With a free slot before it, as in no queue that is packed, a slide
+// would leave something else.
 fn move_in(s: &mut [u8], q: usize, i: usize)
     requires { ⌜ (i < taskCount) × (q < queueCount) × Image (now s) ⌝ }
     ensures { λ _. ⌜ view (now (s .exit)) ≡ withQueue q (moved (works (view (now (s .entry)))) i (queueOf (view (now (s .entry))) q)) (view (now (s .entry))) ⌝ }
 {
     let at = packed_in(s, q, i);
     if at < layout::SLOTS {
-        slide_in(s, q, i, at);
+        slide_in(s, q, i, at, false);
         return;
     }
     remove_in(s, q, i);
-    insert_in(s, q, i);
+    insert_in(s, q, i, false);
 }
 
 // Task i, whose fields were stored, but for its working priority, stood in queue q: where its place is another now, it leaves q and
@@ -217,18 +228,21 @@ fn put_in(s: &mut [u8], i: usize, k: rules::Task)
     ensures { λ _. ⌜ view (now (s .exit)) ≡ put i k (view (now (s .entry))) ⌝ }
 {
     let q = place_of(s, i);
-    if tasks::get_work(s, i) == k.work {
+    let old = tasks::get_work(s, i);
+    if old == k.work {
         tasks::store(s, i, k);
         settle(s, i, q);
         return;
     }
+    let raised = k.work < old;
     leave_queue(s, q, i);
     tasks::store(s, i, k);
     let new = place_of(s, i);
-    join_queue(s, new, i);
+    enter_queue(s, new, i, (q == new) & raised);
 }
 
-// Task i becomes k. Where its place or its working priority changes, it leaves its queue and goes behind its equals in the other.
+// Task i becomes k. Where its place or its working priority changes, it leaves its queue and comes into the other, before its equals where it is
+// raised and else behind them.
 pub fn put_task(s: &mut [u8], i: usize, k: rules::Task)
     requires { ⌜ Image (now s) ⌝ }
     ensures { λ _. ⌜ view (now (s .exit)) ≡ put i k (view (now (s .entry))) ⌝ }
@@ -249,31 +263,32 @@ pub fn clear_task(s: &mut [u8], i: usize)
     tasks::store(s, i, tasks::no_task());
 }
 
-// The working priority of task i, which stands in queue q, becomes p. One search serves the word and the slots; where a free slot stands before the
-// task, it leaves and joins.
-fn rework_in(s: &mut [u8], q: usize, i: usize, p: u8)
+// The working priority of task i, which stands in queue q, becomes p, and the task goes before its equals or behind them. One search serves the
+// word and the slots; where a free slot stands before the task, it leaves and comes in again.
+fn rework_in(s: &mut [u8], q: usize, i: usize, p: u8, ahead: bool)
     requires { ⌜ (i < taskCount) × (q < queueCount) × Image (now s) ⌝ }
-    ensures { λ _. ⌜ view (now (s .exit)) ≡ reworkedIn q i p (view (now (s .entry))) ⌝ }
+    ensures { λ _. ⌜ view (now (s .exit)) ≡ reworkedIn ahead q i p (view (now (s .entry))) ⌝ }
 {
     let at = packed_in(s, q, i);
     if at < layout::SLOTS {
         levels::drop_from(s, q, i, at);
         tasks::set_work(s, i, p);
-        slide_in(s, q, i, at);
+        slide_in(s, q, i, at, ahead);
         levels::add_in(s, q, i);
         return;
     }
     leave_queue(s, q, i);
     tasks::set_work(s, i, p);
-    join_queue(s, q, i);
+    enter_queue(s, q, i, ahead);
 }
 
-// The working priority of task i becomes p; where that is another, the task goes behind its equals.
+// The working priority of task i becomes p; raised, the task goes before its equals, and lowered behind them.
 pub fn rework_task(s: &mut [u8], i: usize, p: u8)
     requires { ⌜ (i < taskCount) × Image (now s) ⌝ }
     ensures { λ _. ⌜ view (now (s .exit)) ≡ putWork (view (now (s .entry))) i p ⌝ }
 {
-    if tasks::get_work(s, i) == p {
+    let old = tasks::get_work(s, i);
+    if old == p {
         return;
     }
     let q = place_of(s, i);
@@ -281,7 +296,7 @@ pub fn rework_task(s: &mut [u8], i: usize, p: u8)
         tasks::set_work(s, i, p);
         return;
     }
-    rework_in(s, q, i, p);
+    rework_in(s, q, i, p, p < old);
 }
 
 fn rotate_in(s: &mut [u8], i: usize)

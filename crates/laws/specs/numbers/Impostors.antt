@@ -21,7 +21,7 @@ use Rattle.rules.specs.declared.Call.{Call}
 use Rattle.rules.specs.declared.Call.the-variants.{TaskCreate, Lock, Unlock, MutexCreate, MutexWait}
 use Rattle.laws.specs.order.Order.{Made}
 -- These the proofs alone use.
-use Rattle.queue.specs.Slots.{firstAt, later, push, pull, opened, closed}
+use Rattle.queue.specs.Slots.{firstAt, from, push, pull, opened, closed}
 use Rattle.queue.specs.Order.{count, mayPrecede, fits, isOrdered}
 use Rattle.rules.specs.Sound.{each, isShaped, marksIn, isTaskInRange, isNoTask, isNoSemaphore, isNoMutex, isNoGroup, isNoChannel, asksIn, isSoundTask, isSoundSemaphore, isSoundMutex, isSoundGroup, isSoundChannel, mayWait, isSoundWait, eachOf, isSoundObjects, isSoundReady, isSoundQueues, isWorkedOut, isSoundNumbers, isSoundWithin, isSoundRuns, isSound}
 use Rattle.rules.specs.Family.{ofState, placeOf}
@@ -31,7 +31,7 @@ use Rattle.rules.specs.Walk.{walkOn}
 use Rattle.rules.specs.Table.{isAble, works}
 use lib.Count.{leadingZeros}
 use Rattle.rules.specs.Ready.{bitOf, withLevel, withoutLevel, firstLevel, levelsBelow, beside, readyWithout, readyWith}
-use Rattle.rules.specs.Move.{leave, join, stays, put, freshIn, chosen}
+use Rattle.rules.specs.Move.{leave, join, stays, isRaised, put, freshIn, chosen}
 use Rattle.rules.specs.Quantum.{quantumOf}
 use Rattle.rules.specs.Task.{createAnswer, create}
 use Rattle.rules.specs.Lock.{lockAnswer, lock, unlockAnswer}
@@ -121,7 +121,7 @@ record Raising : Type 0 where
   next : taskOf (serve (MutexWait 0 1 0) false raised .table) 3 .work ≡ 5
 
 raising : Raising
-unfolding firstAt later push pull opened closed leads smallest fresh walkOn freshTable isAble placeOf works leadingZeros bitOf withLevel withoutLevel firstLevel levelsBelow beside readyWithout readyWith leave join stays put holderOf next freshIn chosen quantumOf createAnswer create objectCreateAnswer blocked waits taken mutex.create mutex.waitAnswer mutex.wait answerTo changeBy toldIn spelled forInterrupts answer effect serve count mayPrecede fits isOrdered each isShaped ofState marksIn isTaskInRange isNoTask isNoSemaphore isNoMutex isNoGroup isNoChannel asksIn isSoundTask isSoundSemaphore isSoundMutex isSoundGroup isSoundChannel mayWait eachOf isSoundWait isSoundObjects isSoundReady isSoundQueues isWorkedOut isSoundNumbers isSoundWithin isSoundRuns isSound after
+unfolding firstAt from push pull opened closed leads smallest fresh walkOn freshTable isAble placeOf works leadingZeros bitOf withLevel withoutLevel firstLevel levelsBelow beside readyWithout readyWith leave join stays isRaised put holderOf next freshIn chosen quantumOf createAnswer create objectCreateAnswer blocked waits taken mutex.create mutex.waitAnswer mutex.wait answerTo changeBy toldIn spelled forInterrupts answer effect serve count mayPrecede fits isOrdered each isShaped ofState marksIn isTaskInRange isNoTask isNoSemaphore isNoMutex isNoGroup isNoChannel asksIn isSoundTask isSoundSemaphore isSoundMutex isSoundGroup isSoundChannel mayWait eachOf isSoundWait isSoundObjects isSoundReady isSoundQueues isWorkedOut isSoundNumbers isSoundWithin isSoundRuns isSound after
 raising = record { sound = refl; before = refl; base = refl; next = refl }
 
 -- Nothing that does what the rules say is one of the five.

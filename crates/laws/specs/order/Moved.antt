@@ -9,14 +9,14 @@ use native.Mathlib.Omega.{arith}
 use lib.Dec.{eqb}
 use lib.ListN.{getD, set}
 use lib.Seq.{getD-set-same, getD-set-other}
-use Rattle.queue.specs.Slots.{without, moved}
+use Rattle.queue.specs.Slots.{without, moved, replaced}
 use Rattle.queue.specs.Order.{those, other}
-use Rattle.queue.specs.Stable.{behind-others, without-others}
+use Rattle.queue.specs.Stable.{entered-others, without-others}
 use Rattle.rules.specs.Afresh.{lt-or-le}
 use Rattle.rules.specs.Sizes.{taskCount}
 use Rattle.rules.specs.Table.{Table, taskOf, queueOf, queueCount, ableQueue, works, written, withWork, withLeft}
 use Rattle.rules.specs.Family.{placeOf}
-use Rattle.rules.specs.Move.{stays, put, rotate, putWork, walk, freshIn}
+use Rattle.rules.specs.Move.{stays, isRaised, put, rotate, putWork, walk, freshIn}
 use Rattle.rules.specs.declared.Task.{Task}
 use Rattle.rules.specs.Sound.{SoundQueues}
 use Rattle.laws.specs.queues.Put.{whichever, put-in, put-out, put-stays, rotate-in, put-each, task-put, task-put-same, part-rotate, place-same, walk-inv}
@@ -32,9 +32,9 @@ abbrev others : ℕ → List ℕ → List ℕ
 others i l = those (other (written i)) l
 
 module _ {t : Table} (s : SoundQueues t) (i : ℕ) (l : i < taskCount) (q : ℕ) (m : q < queueCount) where
-  moved-leaves : (keys : List ℕ) → others i (moved keys i (queueOf t q)) ≡ others i (queueOf t q)
-  moved-leaves keys =
-      behind-others keys i (without i (queueOf t q)) (slot-free (works t) (λ j. eqb (placeOf (taskOf t j)) q) i l (λ x z d. refl) (λ j d. refl) (queue-right s q m))
+  moved-leaves : (inFront : Bool) (keys : List ℕ) → others i (replaced inFront keys i (queueOf t q)) ≡ others i (queueOf t q)
+  moved-leaves inFront keys =
+      entered-others inFront keys i (without i (queueOf t q)) (slot-free (works t) (λ j. eqb (placeOf (taskOf t j)) q) i l (λ x z d. refl) (λ j d. refl) (queue-right s q m))
       ∙ without-others i (queueOf t q)
 
   put-others : (k : Task) → others i (queueOf (put i k t) q) ≡ others i (queueOf t q)
@@ -42,7 +42,7 @@ module _ {t : Table} (s : SoundQueues t) (i : ℕ) (l : i < taskCount) (q : ℕ)
     where
       go : (b : Bool) → stays (taskOf t i) k ≡ b → others i (queueOf (put i k t) q) ≡ others i (queueOf t q)
       go true e = rw (put-in i k t l, e)
-      go false e = rw (put-queue i k q l m s e) (whichever (λ x. others i x ≡ others i (queueOf t q)) (eqb (placeOf k) q) (moved-leaves (works (put i k t))) (without-others i (queueOf t q)))
+      go false e = rw (put-queue i k q l m s e) (whichever (λ x. others i x ≡ others i (queueOf t q)) (eqb (placeOf k) q) (moved-leaves (isRaised (taskOf t i) k) (works (put i k t))) (without-others i (queueOf t q)))
 
   rotate-others : others i (queueOf (rotate i t) q) ≡ others i (queueOf t q)
   rotate-others = rw (rotate-in i t l) (go (ℕ-discrete q ableQueue))
@@ -51,7 +51,7 @@ module _ {t : Table} (s : SoundQueues t) (i : ℕ) (l : i < taskCount) (q : ℕ)
       l′ = moved (works t) i (queueOf t ableQueue)
 
       go : Dec (q ≡ ableQueue) → others i (getD (set (t .queues) ableQueue l′) q []) ≡ others i (queueOf t q)
-      go (yes e) = rw (e, getD-set-same (t .queues) ableQueue l′ [] (omega (arith, s .shaped .queues))) (rw e at (moved-leaves (works t)))
+      go (yes e) = rw (e, getD-set-same (t .queues) ableQueue l′ [] (omega (arith, s .shaped .queues))) (rw e at (moved-leaves false (works t)))
       go (no d) = rw (getD-set-other (t .queues) ableQueue q l′ [] d)
 
 -- ---- changes that do not come back

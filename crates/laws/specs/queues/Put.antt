@@ -11,13 +11,13 @@ use lib.ListN.{length, getD, set, length-set, List·getD-map}
 use lib.Seq.{getD-set-same, getD-set-other, set-out, map-set-same}
 use borrow.Author.Tests.{lt-ltb, le-ltb, eq-eqb}
 use Rattle.queue.specs.Slots.{moved}
-use Rattle.queue.specs.Lengths.{length-behind, length-without, length-moved}
+use Rattle.queue.specs.Lengths.{length-entered, length-without, length-replaced}
 use Rattle.rules.specs.Decides.{Decides}
 use Rattle.rules.specs.Afresh.{lt-or-le}
 use Rattle.rules.specs.Sizes.{taskCount}
 use Rattle.rules.specs.Table.{Table, taskOf, queueOf, queueCount, ableQueue, works, isAble, noTask, withTask, withQueue, withReady, withLeft}
 use Rattle.rules.specs.Family.{ofState, placeOf}
-use Rattle.rules.specs.Move.{leave, join, stays, put, rotate, putWork, walk, next, freshIn}
+use Rattle.rules.specs.Move.{leave, join, stays, isRaised, put, rotate, putWork, walk, next, freshIn}
 use Rattle.rules.specs.Sound.{Shaped, SoundWithin}
 use Rattle.rules.specs.declared.Task.{Task}
 use Rattle.laws.specs.chains.Walk.{walkOn-inv, walkOn-keeps}
@@ -81,7 +81,7 @@ part-set f l i x j d e = set-each (λ n y. f y ≡ f (getD l n d)) l i j x d e r
 
 -- Task i becomes k and moves.
 abbrev pub shifted : ℕ → Task → Table → Table
-shifted i k t = join (placeOf k) i (withTask i k (leave (placeOf (taskOf t i)) i t))
+shifted i k t = join (isRaised (taskOf t i) k) (placeOf k) i (withTask i k (leave (placeOf (taskOf t i)) i t))
 
 -- A task with its whole quantum left.
 abbrev pub refilled : Task → Task
@@ -124,19 +124,19 @@ module _ (P : Table → Type 0) (queue : Aside P) where
   unfolding leave
   leave-inv q i t h = whichever P (ltb q queueCount) (queue q _ _ t (length-without i (queueOf t q)) h) h
 
-  pub join-inv : (q i : ℕ) (t : Table) → P t → P (join q i t)
+  pub join-inv : (inFront : Bool) (q i : ℕ) (t : Table) → P t → P (join inFront q i t)
   unfolding join
-  join-inv q i t h = whichever P (ltb q queueCount) (queue q _ _ t (length-behind (works t) i (queueOf t q)) h) h
+  join-inv inFront q i t h = whichever P (ltb q queueCount) (queue q _ _ t (length-entered inFront (works t) i (queueOf t q)) h) h
 
 module _ (P : Table → Type 0) (queue : Aside P) where
   -- It holds after a put, where it holds when the task alone has changed.
   pub put-inv : (i : ℕ) (k : Task) (t : Table) → i < taskCount → P (withTask i k t) → P (put i k t)
   put-inv i k t l h =
       rw (put-in i k t l)
-      (whichever P (stays (taskOf t i) k) h (join-inv P queue _ i _ (leave-inv (λ u. P (withTask i k u)) (λ q m w u e r. queue q m w (withTask i k u) e r) _ i t h)))
+      (whichever P (stays (taskOf t i) k) h (join-inv P queue _ _ i _ (leave-inv (λ u. P (withTask i k u)) (λ q m w u e r. queue q m w (withTask i k u) e r) _ i t h)))
 
   pub rotate-inv : (i : ℕ) (t : Table) → i < taskCount → P (withTask i (refilled (taskOf t i)) t) → P (rotate i t)
-  rotate-inv i t l h = rw (rotate-in i t l) (queue ableQueue _ _ _ (length-moved (works t) i (queueOf t ableQueue)) h)
+  rotate-inv i t l h = rw (rotate-in i t l) (queue ableQueue _ _ _ (length-replaced false (works t) i (queueOf t ableQueue)) h)
 
   -- The same for any number, also one that is no task's, where it held before.
   pub put-any : (i : ℕ) (k : Task) (t : Table) → P t → P (withTask i k t) → P (put i k t)

@@ -10,18 +10,18 @@ use lib.Dec.{eqb, ltb}
 use lib.ListN.{length, set}
 use lib.Seq.{getD-set-same, getD-set-other, set-getD}
 use borrow.Author.Tests.{eqb-true, eq-eqb, ne-eqb, lt-ltb}
-use Rattle.queue.specs.Slots.{stands, behind, without, moved}
+use Rattle.queue.specs.Slots.{stands, entered, without, replaced}
 use Rattle.queue.specs.Order.{All, Ordered, one, count}
-use Rattle.queue.specs.Lengths.{length-without, length-moved}
+use Rattle.queue.specs.Lengths.{length-without, length-replaced}
 use Rattle.queue.specs.Room.{room}
-use Rattle.queue.specs.Counts.{one-same, one-other, stands-count, count-behind, count-without}
-use Rattle.queue.specs.Keeps.{all-opened, all-closed, Agree, without-ordered, ordered-agree, moved-ordered}
+use Rattle.queue.specs.Counts.{one-same, one-other, stands-count, count-entered, count-without}
+use Rattle.queue.specs.Keeps.{all-opened, all-closed, Agree, without-ordered, ordered-agree, replaced-ordered}
 use Rattle.queue.specs.Stable.{without-absent}
 use Rattle.rules.specs.Afresh.{lt-or-le}
 use Rattle.rules.specs.Sizes.{taskCount}
 use Rattle.rules.specs.Table.{Table, taskOf, queueOf, queueCount, ableQueue, works, isAble, written, withTask, withMutex, withQueue, withReady, withLeft}
 use Rattle.rules.specs.Family.{placeOf}
-use Rattle.rules.specs.Move.{leave, join, stays, put, rotate, walk}
+use Rattle.rules.specs.Move.{leave, join, stays, isRaised, put, rotate, walk}
 use Rattle.rules.specs.Sound.{Each, once, Shaped, SoundReady, SoundQueues}
 use Rattle.rules.specs.Tested.{once-most}
 use Rattle.rules.specs.declared.Task.{Task}
@@ -74,26 +74,26 @@ module _ {old l : List ℕ} {before : ℕ → Bool} (keys : List ℕ) (stand : �
       most j m (yes d) = rw d (omega (arith, gone))
       most j m (no d) = omega (arith, others-stand j m d, once-most (stand j))
 
-  -- Where it is to stand it goes behind its equals.
-  in-right : stand i ≡ true → QueueRight keys stand (moved keys i l)
-  in-right e =
+  -- Where it is to stand it comes in, before its equals or behind them.
+  in-right : (inFront : Bool) → stand i ≡ true → QueueRight keys stand (replaced inFront keys i l)
+  in-right inFront e =
       record {
-        slots = length-moved keys i l ∙ r .slots;
+        slots = length-replaced inFront keys i l ∙ r .slots;
         counted = λ j m. counted j m (ℕ-discrete j i);
         inside = all-opened _ (written i) (omega arith) (all-closed _ (omega arith) (r .inside));
-        ordered = moved-ordered keys i agree (omega (arith, r .counted i h, once-most (before i))) (r .ordered);
+        ordered = replaced-ordered inFront keys i agree (omega (arith, r .counted i h, once-most (before i))) (r .ordered);
       }
     where
-      more : (j : ℕ) → count (written j) (moved keys i l) ≡ one (written j) (written i) + count (written j) (without i l)
-      more j = count-behind (written j) (λ z. omega arith) keys i (without i l) slot-free
+      more : (j : ℕ) → count (written j) (replaced inFront keys i l) ≡ one (written j) (written i) + count (written j) (without i l)
+      more j = count-entered (written j) (λ z. omega arith) inFront keys i (without i l) slot-free
 
-      counted : (j : ℕ) → j < taskCount → Dec (j ≡ i) → count (written j) (moved keys i l) ≡ once (stand j)
+      counted : (j : ℕ) → j < taskCount → Dec (j ≡ i) → count (written j) (replaced inFront keys i l) ≡ once (stand j)
       counted j m (yes d) = rw d (more i ∙ omega (arith, one-same (written i), gone, ap once e))
       counted j m (no d) = more j ∙ omega (arith, one-other (written j) (written i) (λ z. d (omega arith)), others-stand j m d)
 
-  renewed-right : (b : Bool) → stand i ≡ b → QueueRight keys stand (cond b (moved keys i l) (without i l))
-  renewed-right true e = in-right e
-  renewed-right false e = out-right e
+  renewed-right : (inFront b : Bool) → stand i ≡ b → QueueRight keys stand (cond b (replaced inFront keys i l) (without i l))
+  renewed-right inFront true e = in-right inFront e
+  renewed-right inFront false e = out-right e
 
 -- A queue with the same keys and the same tasks.
 same-right : {keys old l : List ℕ} {stand before : ℕ → Bool} → keys ≡ old → ((j : ℕ) → stand j ≡ before j) → QueueRight old before l → QueueRight keys stand l
@@ -126,10 +126,10 @@ leave-queue : (p i q : ℕ) (t : Table) → q < queueCount → length (t .queues
 unfolding leave
 leave-queue p i q t = changed-queue (without i) p q _ t
 
-join-queue : (p i q : ℕ) (t : Table) → q < queueCount → length (t .queues) ≡ queueCount
-    → queueOf (join p i t) q ≡ cond (eqb p q) (behind (works t) i (queueOf t q)) (queueOf t q)
+join-queue : (inFront : Bool) (p i q : ℕ) (t : Table) → q < queueCount → length (t .queues) ≡ queueCount
+    → queueOf (join inFront p i t) q ≡ cond (eqb p q) (entered inFront (works t) i (queueOf t q)) (queueOf t q)
 unfolding join
-join-queue p i q t = changed-queue (behind (works t) i) p q _ t
+join-queue inFront p i q t = changed-queue (entered inFront (works t) i) p q _ t
 
 -- The one queue where task i may stand is without it.
 left-queue : {t : Table} (i q : ℕ) → i < taskCount → q < queueCount → SoundQueues t → queueOf (leave (placeOf (taskOf t i)) i t) q ≡ without i (queueOf t q)
@@ -141,17 +141,17 @@ left-queue {t} i q l m s = leave-queue (placeOf (taskOf t i)) i q t m (s .shaped
 
 -- A task that moves stands in the queue of its place, and in no other.
 shifted-queue : {t : Table} (i : ℕ) (k : Task) (q : ℕ) → i < taskCount → q < queueCount → SoundQueues t
-    → queueOf (shifted i k t) q ≡ cond (eqb (placeOf k) q) (moved (works (withTask i k t)) i (queueOf t q)) (without i (queueOf t q))
+    → queueOf (shifted i k t) q ≡ cond (eqb (placeOf k) q) (replaced (isRaised (taskOf t i) k) (works (withTask i k t)) i (queueOf t q)) (without i (queueOf t q))
 unfolding works
 shifted-queue {t} i k q l m s =
-    join-queue (placeOf k) i q (withTask i k left) m (leave-inv Shaped queue-shaped _ i t (s .shaped) .queues)
+    join-queue (isRaised (taskOf t i) k) (placeOf k) i q (withTask i k left) m (leave-inv Shaped queue-shaped _ i t (s .shaped) .queues)
     ∙ rw (leave-inv (λ u. u .tasks ≡ t .tasks) (λ p r w u e h. h) (placeOf (taskOf t i)) i t refl, left-queue i q l m s)
   where
     left : Table
     left = leave (placeOf (taskOf t i)) i t
 
 pub put-queue : {t : Table} (i : ℕ) (k : Task) (q : ℕ) → i < taskCount → q < queueCount → SoundQueues t → stays (taskOf t i) k ≡ false
-    → queueOf (put i k t) q ≡ cond (eqb (placeOf k) q) (moved (works (put i k t)) i (queueOf t q)) (without i (queueOf t q))
+    → queueOf (put i k t) q ≡ cond (eqb (placeOf k) q) (replaced (isRaised (taskOf t i) k) (works (put i k t)) i (queueOf t q)) (without i (queueOf t q))
 unfolding works
 put-queue {t} i k q l m s e = rw (put-stored i k t l .tasks) (ap (λ u. queueOf u q) (put-moves i k t l e) ∙ shifted-queue i k q l m s)
 
@@ -175,6 +175,7 @@ put-queued {t} i k s = ⊎-elim (λ l. right-queued (put-shaped i k (s .shaped))
         (others-agree i k t l)
         (λ j d. ap (λ x. eqb (placeOf x) q) (task-put i k t j d))
         (queue-right s q m)
+        (isRaised (taskOf t i) k)
         (eqb (placeOf k) q)
         (ap (λ x. eqb (placeOf x) q) (task-put-same i k t l (s .shaped .tasks))))
 
@@ -230,7 +231,7 @@ rotate-queued {t} i s l able = right-queued (rotate-shaped i (s .shaped)) (λ q 
         (same-right
         (works-rotate i t)
         (same ableQueue)
-        (in-right (works t) (standsIn t ableQueue) i l (λ x z d. refl) (λ j d. refl) (queue-right s ableQueue (omega arith)) (sym (able-place (taskOf t i)) ∙ able)))
+        (in-right (works t) (standsIn t ableQueue) i l (λ x z d. refl) (λ j d. refl) (queue-right s ableQueue (omega arith)) false (sym (able-place (taskOf t i)) ∙ able)))
 
     right : (q : ℕ) → q < queueCount → Dec (ableQueue ≡ q) → QueueRight (works (rotate i t)) (standsIn (rotate i t) q) (queueOf (rotate i t) q)
     right q m (yes e) = rw (← e) there

@@ -3,7 +3,7 @@ use mathlib.Core.List.{List}
 use Prim.Native.Nat.{ℕ, _+_, _-_}
 use lib.ListN.{length}
 use native.Mathlib.Omega.{arith}
-use Rattle.queue.specs.Slots.{later, placeBehind}
+use Rattle.queue.specs.Slots.{from, placeFrom, limit}
 use Rattle.queue.specs.Slide.{lifted-past}
 use Rattle.queue.proofs.Place.{place-front, place-rest}
 use borrow.Author.Needs.{needs}
@@ -13,12 +13,12 @@ use Rattle.queue.proofs.slides.place_without.Tie as tie
 returns : tie.Need-returns
 returns c =
     let a = c .before .before .before .before .args in
-    c .place-behind .ensures ∙ ap (placeBehind (a .keys .now) (a .key)) (sym (lifted-past (a .at) (a .ids .now) (c .before .if1 .taken)))
+    c .place-at .ensures ∙ ap (placeFrom (a .keys .now) (limit (a .ahead) (a .key))) (sym (lifted-past (a .at) (a .ids .now) (c .before .if1 .taken)))
 
 returns-2 : tie.Need-returns-2
 returns-2 c =
     let a = c .before .before .before .before .before .before .args in
-    place-front (later (a .keys .now) (a .key)) (a .ids .now) (a .at) (omega arith) (a .at - 0) (omega arith) _ (c .before .place-behind2 .ensures) (c .if2 .taken)
+    place-front (from (a .keys .now) (limit (a .ahead) (a .key))) (a .ids .now) (a .at) (omega arith) (a .at - 0) (omega arith) _ (c .before .place-at2 .ensures) (c .if2 .taken)
 
 add-result : tie.Need-add-result
 add-result c =
@@ -26,8 +26,8 @@ add-result c =
     let a = e .before .before .before .before .before .before .args in
     let l : List ℕ = a .ids .now in
     let r =
-    place-rest (later (a .keys .now) (a .key)) l (a .at) (omega arith) (a .at - 0) (omega arith) _ _ (length l - (a .at + 1)) (e .before .place-behind2 .ensures) (e .if2 .left) refl
-    (c .place-behind3 .ensures) in
+    place-rest (from (a .keys .now) (limit (a .ahead) (a .key))) l (a .at) (omega arith) (a .at - 0) (omega arith) _ _ (length l - (a .at + 1)) (e .before .place-at2 .ensures) (e .if2 .left) refl
+    (c .place-at3 .ensures) in
     omega (arith, r .1)
 
 returns-3 : tie.Need-returns-3
@@ -36,8 +36,8 @@ returns-3 c =
     let a = e .before .before .before .before .before .before .args in
     let l : List ℕ = a .ids .now in
     let r =
-    place-rest (later (a .keys .now) (a .key)) l (a .at) (omega arith) (a .at - 0) (omega arith) _ _ (length l - (a .at + 1)) (e .before .place-behind2 .ensures) (e .if2 .left) refl
-    (c .place-behind3 .ensures) in
+    place-rest (from (a .keys .now) (limit (a .ahead) (a .key))) l (a .at) (omega arith) (a .at - 0) (omega arith) _ _ (length l - (a .at + 1)) (e .before .place-at2 .ensures) (e .if2 .left) refl
+    (c .place-at3 .ensures) in
     r .0
 
 pub place-without-spec : {M : Type 1} → statement M

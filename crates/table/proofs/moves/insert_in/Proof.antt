@@ -9,7 +9,7 @@ returns c =
     let d = c .before .before in
     let f = d .before .before in
     let a = d .before .before .before .before .before .args in
-    joined-queue (a .s .now) (a .q) (a .i) (d .«open» .last .0) (omega arith) (omega arith) (f .place-in .result) (f .place-in .ensures) (d .«open» .ensures .1)
+    joined-queue (a .s .now) (a .q) (a .i) (d .«open» .last .0) (omega arith) (omega arith) (a .ahead) (f .place-in .result) (f .place-in .ensures) (d .«open» .ensures .1)
 
 pub insert-in-spec : {M : Type 1} → statement M
 insert-in-spec =

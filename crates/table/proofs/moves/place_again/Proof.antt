@@ -2,7 +2,7 @@ use mathlib.Core.Path.{ap, _∙_}
 use mathlib.Core.List.{List}
 use Prim.Native.Nat.{ℕ}
 use native.Mathlib.Omega.{arith}
-use Rattle.queue.specs.Slots.{placeBehind}
+use Rattle.queue.specs.Slots.{placeFrom, limit}
 use Rattle.queue.specs.Slide.{lifted}
 use Rattle.rules.specs.Table.{works, queueOf}
 use Rattle.table.specs.Image.{view}
@@ -18,7 +18,7 @@ returns c =
     let l : List ℕ = a .s .now in
     c .place-without .ensures
     ∙ rw (queue-lent l (a .q) (omega arith) (omega arith), ← view-works l (omega arith), work-at (view l) (a .i))
-    (ap (λ (key : ℕ). placeBehind (works (view l)) key (lifted (a .at) (queueOf (view l) (a .q)))) (c .before .before .before .get-work .ensures))
+    (ap (λ (key : ℕ). placeFrom (works (view l)) (limit (a .ahead) key) (lifted (a .at) (queueOf (view l) (a .q)))) (c .before .before .before .get-work .ensures))
 
 pub place-again-spec : {M : Type 1} → statement M
 place-again-spec =

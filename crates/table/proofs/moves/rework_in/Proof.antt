@@ -32,7 +32,7 @@ returns c =
     let h = f .before .before .before .before in
     let g = h .before .before .before in
     let a = g .before .before .before .args in
-    rework-slid (a .i) (a .p) (a .q) (view (a .s .now)) (omega arith) (view-shaped (a .s .now) (omega arith) .queues) _ _ _ _ (h .drop-from .ensures) (f .set-work .ensures) (e .slide-in .ensures) (d .add-in .ensures)
+    rework-slid (a .i) (a .p) (a .q) (view (a .s .now)) (a .ahead) (omega arith) (view-shaped (a .s .now) (omega arith) .queues) _ _ _ _ (h .drop-from .ensures) (f .set-work .ensures) (e .slide-in .ensures) (d .add-in .ensures)
 
 returns-2 : tie.Need-returns-2
 returns-2 c =
@@ -40,7 +40,7 @@ returns-2 c =
     let f = d .before .before .before .before in
     let h = f .before .before .before .before in
     let a = h .before .before .before .before .before .before .args in
-    rework-again (a .i) (a .p) (a .q) (view (a .s .now)) _ _ _ (h .leave-queue .ensures) (f .set-work2 .ensures) (d .join-queue .ensures)
+    rework-again (a .i) (a .p) (a .q) (view (a .s .now)) (a .ahead) _ _ _ (h .leave-queue .ensures) (f .set-work2 .ensures) (d .enter-queue .ensures)
 
 pub rework-in-spec : {M : Type 1} → statement M
 rework-in-spec =

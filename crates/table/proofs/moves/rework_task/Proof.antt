@@ -1,7 +1,10 @@
-use mathlib.Core.Path.{_≡_, sym, _∙_}
+use mathlib.Core.Path.{_≡_, sym, ap, _∙_}
+use Prim.Native.Nat.{ℕ}
+use lib.Dec.{ltb}
 use native.Mathlib.Omega.{arith}
 use Rattle.rules.specs.Table.{taskOf}
 use Rattle.table.specs.Image.{view}
+use Rattle.table.specs.Ready.{reworkedIn}
 use Rattle.laws.specs.chains.Graph.{work-same}
 use Rattle.table.proofs.Places.{rework-there, rework-none}
 use borrow.Author.Needs.{needs}
@@ -31,7 +34,9 @@ returns-3 c =
     let f = p .before .before in
     let a = f .before .before .before .before .args in
     let other : (taskOf (view (a .s .now)) (a .i) .work ≡ a .p → ⊥) = λ e. f .if1 .left (f .before .get-work .ensures ∙ e) in
-    d .rework-in .ensures ∙ rework-there (a .i) (a .p) _ (view (a .s .now)) (omega arith) (p .place-of .ensures) other (b .if2 .left)
+    d .rework-in .ensures
+    ∙ ap (λ (x : ℕ). reworkedIn (ltb (a .p) x) (p .place-of .result) (a .i) (a .p) (view (a .s .now))) (f .before .get-work .ensures)
+    ∙ rework-there (a .i) (a .p) _ (view (a .s .now)) (omega arith) (p .place-of .ensures) other (b .if2 .left)
 
 pub rework-task-spec : {M : Type 1} → statement M
 rework-task-spec =

@@ -10,7 +10,7 @@ returns c =
     let f = d .before .before in
     let b = f .before .before .before in
     let a = b .args in
-    rejoined-queue (a .s .now) (a .q) (a .i) (d .slide .last .0) (omega arith) (omega arith) (a .at) (f .place-again .result) (b .pre .3) (omega arith) (f .place-again .ensures) (d .slide .ensures)
+    rejoined-queue (a .s .now) (a .q) (a .i) (d .slide .last .0) (omega arith) (omega arith) (a .ahead) (a .at) (f .place-again .result) (b .pre .3) (omega arith) (f .place-again .ensures) (d .slide .ensures)
 
 pub slide-in-spec : {M : Type 1} → statement M
 slide-in-spec =

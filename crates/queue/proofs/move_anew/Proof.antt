@@ -1,15 +1,15 @@
 use mathlib.Core.Path.{ap, sym, _∙_}
 use Prim.Native.Nat.{ℕ, _+_}
-use Rattle.queue.specs.Slots.{closed, behind}
+use Rattle.queue.specs.Slots.{closed, entered}
 use Rattle.queue.specs.Slide.{packed-found}
 use borrow.Author.Tests.{not-true, not-false}
 use Rattle.queue.proofs.Outcome.{known-small, move-unknown, move-absent, move-done}
 use borrow.Author.Needs.{needs}
-use Rattle.queue.proofs.move_behind.Statement.{statement}
-use Rattle.queue.proofs.move_behind.Tie as tie
+use Rattle.queue.proofs.move_anew.Statement.{statement}
+use Rattle.queue.proofs.move_anew.Tie as tie
 
 returns : tie.Need-returns
-returns c = move-unknown _ _ _ (sym (c .before .is-known .ensures) ∙ not-true _ (c .if1 .taken))
+returns c = move-unknown _ _ _ _ (sym (c .before .is-known .ensures) ∙ not-true _ (c .if1 .taken))
 
 move-from-requires : tie.Need-move-from-requires
 move-from-requires c κs =
@@ -24,16 +24,16 @@ returns-2 c =
     let t = m .before .before in
     let e = t .before .before .before in
     let r =
-    move-done _ _ _ _ (packed-found _ _ _ (t .before .find-packed .ensures) (t .if2 .taken)) (sym (e .before .is-known .ensures) ∙ not-false _ (e .if1 .left)) (t .if2 .taken) in
+    move-done _ _ _ _ (packed-found _ _ _ (t .before .find-packed .ensures) (t .if2 .taken)) _ (sym (e .before .is-known .ensures) ∙ not-false _ (e .if1 .left)) (t .if2 .taken) in
     (r .0, m .move-from .ensures ∙ r .1)
 
 returns-3 : tie.Need-returns-3
 returns-3 c =
     let e = c .before .before .before .before .before .before in
-    move-absent _ _ _ _ (c .before .slot-of .ensures) (sym (e .before .is-known .ensures) ∙ not-false _ (e .if1 .left)) (c .if3 .taken)
+    move-absent _ _ _ _ (c .before .slot-of .ensures) _ (sym (e .before .is-known .ensures) ∙ not-false _ (e .if1 .left)) (c .if3 .taken)
 
-put-behind-requires : tie.Need-put-behind-requires
-put-behind-requires c κs =
+enter-requires : tie.Need-enter-requires
+enter-requires c κs =
     let e = c .before .before .before .before .before .before .before .before .before .before .before in
     known-small (e .before .before .before .before .args .keys .now) _ (sym (e .before .is-known .ensures) ∙ not-false _ (e .if1 .left))
 
@@ -42,12 +42,12 @@ returns-4 c =
     let d = c .before .before .before .before .before .before .before .before in
     let e = d .before .before .before .before .before .before in
     let a = e .before .before .before .before .args in
-    let r = move-done _ _ _ _ (d .before .slot-of .ensures) (sym (e .before .is-known .ensures) ∙ not-false _ (e .if1 .left)) (d .if3 .left) in
+    let r = move-done _ _ _ _ (d .before .slot-of .ensures) _ (sym (e .before .is-known .ensures) ∙ not-false _ (e .if1 .left)) (d .if3 .left) in
     let left = c .before .before .before .before .before .before .close .ensures .1 ∙ ap (λ (n : ℕ). closed n (a .ids .now)) (d .before .slot-of .ensures) in
-    (r .0, c .before .before .put-behind .ensures ∙ ap (behind (a .keys .now) (a .id)) left ∙ r .1)
+    (r .0, c .before .before .enter .ensures ∙ ap (entered (a .ahead) (a .keys .now) (a .id)) left ∙ r .1)
 
-pub move-behind-spec : {M : Type 1} → statement M
-move-behind-spec =
+pub move-anew-spec : {M : Type 1} → statement M
+move-anew-spec =
     tie.close
     (tie.spec
     (λ c κs. search needs)
@@ -61,6 +61,6 @@ move-behind-spec =
     (λ c. search needs)
     returns-3
     (λ c κs. search needs)
-    put-behind-requires
+    enter-requires
     (λ c. search needs)
     returns-4)
