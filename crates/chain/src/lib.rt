@@ -10,6 +10,8 @@ ghost use Rattle.chain.specs.States.{statesFrom};
 use table::mutexes;
 use table::tasks;
 
+pub mod local;
+pub mod rings;
 pub mod walk;
 
 // The task that holds mutex m; 32, which is no task, for none.

@@ -1,4 +1,5 @@
 pub mod chains
+pub mod local
 pub mod queues
 pub mod keeps
 pub mod order

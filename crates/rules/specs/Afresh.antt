@@ -18,7 +18,7 @@ lt-or-le a b = go (decLt a b)
     go (yes l) = inl l
     go (no l) = inr (omega arith)
 
-add-sub : {a k : ℕ} → a ≤ k → a + (k - a) ≡ k
+pub add-sub : {a k : ℕ} → a ≤ k → a + (k - a) ≡ k
 add-sub h = omega arith
 
 -- ---- the pigeonhole
@@ -54,11 +54,11 @@ patched g n v k = go (eqb (g k) n) refl
     go false e = inr (eqb-false _ _ e, rw e)
 
 -- Two of the numbers g 0 to g n are equal.
-abbrev Twice : (ℕ → ℕ) → ℕ → Type 0
+abbrev pub Twice : (ℕ → ℕ) → ℕ → Type 0
 Twice g n = (a : ℕ) × (b : ℕ) × (a < b) × (b ≤ n) × (g a ≡ g b)
 
 -- They are, if each is below n: where none equals the last, the last takes the place of n - 1 among the others.
-pigeon : (n : ℕ) (g : ℕ → ℕ) → ((k : ℕ) → k ≤ n → g k < n) → Twice g n
+pub pigeon : (n : ℕ) (g : ℕ → ℕ) → ((k : ℕ) → k ≤ n → g k < n) → Twice g n
 pigeon zero g small = absurd (not-suc-le-zero (small 0 (omega arith)))
 pigeon (suc n) g small = ⊎-elim (λ s. (s .0, suc n, s .1, omega arith, s .2)) (λ none. back none (pigeon n (patch g n v) (below none))) (find g v (suc n))
   where
@@ -102,7 +102,7 @@ split {next} {j} {i} c = go (c .waits) (c .there)
     go zero e = inl e
     go (suc k) e = inr (record { waits = k; there = e })
 
-after-add : (next : ℕ → ℕ) (a b j : ℕ) → after next (a + b) j ≡ after next b (after next a j)
+pub after-add : (next : ℕ → ℕ) (a b j : ℕ) → after next (a + b) j ≡ after next b (after next a j)
 unfolding after
 after-add next zero b j = rw zero-add
 after-add next (suc a) b j = rw suc-add (after-add next a b (next j))
@@ -119,7 +119,7 @@ module _ {n : ℕ} {next : ℕ → ℕ} (ends : Ends n next) where
   stays-out (suc k) out = stays-out k (ends _ out)
 
   -- Where a chain leads to a task, all on the way are tasks.
-  inside : {i : ℕ} (k a j : ℕ) → after next k j ≡ i → i < n → a ≤ k → after next a j < n
+  pub inside : {i : ℕ} (k a j : ℕ) → after next k j ≡ i → i < n → a ≤ k → after next a j < n
   inside k a j e l h =
       ⊎-elim
       (λ y. y)
@@ -180,16 +180,16 @@ module _ {n : ℕ} {next : ℕ → ℕ} (ends : Ends n next) {i : ℕ} (l : i < 
 -- ---- the smallest
 
 -- One task more: it passes the test and counts, or it does not count.
-abbrev Step : (ℕ → Bool) → (ℕ → ℕ) → ℕ → ℕ → Type 0
+abbrev pub Step : (ℕ → Bool) → (ℕ → ℕ) → ℕ → ℕ → Type 0
 Step test base m k =
     ((test k ≡ true) × (smallest test base (suc k) m ≡ min (base k) (smallest test base k m))) ⊎ ((test k ≡ false) × (smallest test base (suc k) m ≡ smallest test base k m))
 
 -- The smallest of the first k tasks is m, or the base of one of them that passes the test.
-abbrev Among : (ℕ → Bool) → (ℕ → ℕ) → ℕ → ℕ → Type 0
+abbrev pub Among : (ℕ → Bool) → (ℕ → ℕ) → ℕ → ℕ → Type 0
 Among test base m k = (smallest test base k m ≡ m) ⊎ ((j : ℕ) × (j < k) × (test j ≡ true) × (base j ≡ smallest test base k m))
 
 module _ (test : ℕ → Bool) (base : ℕ → ℕ) (m : ℕ) where
-  smallest-step : (k : ℕ) → Step test base m k
+  pub smallest-step : (k : ℕ) → Step test base m k
   unfolding smallest
   smallest-step k = go (test k) refl
     where
@@ -197,7 +197,7 @@ module _ (test : ℕ → Bool) (base : ℕ → ℕ) (m : ℕ) where
       go true e = inl (e, rw e)
       go false e = inr (e, rw e)
 
-  smallest-least : (k j : ℕ) → j < k → test j ≡ true → smallest test base k m ≤ base j
+  pub smallest-least : (k j : ℕ) → j < k → test j ≡ true → smallest test base k m ≤ base j
   smallest-least zero j l t = absurd (not-suc-le-zero l)
   smallest-least (suc k) j l t = go (smallest-step k) (eq-or-lt-of-le (le-of-suc-le-suc l)) (λ h. smallest-least k j h t)
     where
@@ -207,7 +207,7 @@ module _ (test : ℕ → Bool) (base : ℕ → ℕ) (m : ℕ) where
       go (inl s) (inr h) rest = omega (arith, s .1, rest h)
       go (inr s) (inr h) rest = omega (arith, s .1, rest h)
 
-  smallest-among : (k : ℕ) → Among test base m k
+  pub smallest-among : (k : ℕ) → Among test base m k
   unfolding smallest
   smallest-among zero = inl refl
   smallest-among (suc k) = go (smallest-among k) (smallest-step k)

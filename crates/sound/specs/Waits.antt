@@ -128,7 +128,7 @@ module _ (t : Table) (tasks : SoundTasks t) (s : SoundQueues (worded t)) where
       let j = firstIn q t - 1 in
       let o = q - f .first in
       let l : j < taskCount = omega (arith, first-range s q h) in
-      let (e, x) = waiter-there (taskOf t j) a (tasks j l .inRange) o (omega arith) (first-there s q h d ∙ there le) in
+      let (e, x) = waiter-there (taskOf t j) a (tasks j l .inRange .object) o (omega arith) (first-there s q h d ∙ there le) in
       let w : MayWait f t j o = subst (MayWait f t j) x (waits j l f a e) in
       (w .used, w .nothing)
     where
@@ -136,7 +136,7 @@ module _ (t : Table) (tasks : SoundTasks t) (s : SoundQueues (worded t)) where
       there le = omega arith
 
   waits-apart : Waits t → HoldersUsed t → Each mutexCount (Apart t)
-  waits-apart waits used m h n = (used m h n, λ e. let l = placed-task i (omega arith) in let (x, y) = waiter-there (taskOf t i) among-mutexes (tasks i l .inRange) m h e in own l (subst (MayWait mutexes t i) y (waits i l mutexes among-mutexes x)))
+  waits-apart waits used m h n = (used m h n, λ e. let l = placed-task i (omega arith) in let (x, y) = waiter-there (taskOf t i) among-mutexes (tasks i l .inRange .object) m h e in own l (subst (MayWait mutexes t i) y (waits i l mutexes among-mutexes x)))
     where
       i : ℕ
       i = mutexOf t m .holder - 1

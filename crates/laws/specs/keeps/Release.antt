@@ -150,7 +150,7 @@ module _ {n : ℕ} {t : Table} (h : Midway n t) (m : ℕ) (l : m < mutexCount) (
       there = sym (walk-place (callerOf t) free i) ∙ first-there queued (mutexQueue m) (omega arith) d
 
       waited : Waits t m i
-      waited = waiter-there (taskOf t i) among-mutexes (s .tasks i r .inRange) m l there
+      waited = waiter-there (taskOf t i) among-mutexes (s .tasks i r .inRange .object) m l there
 
       waiter : Waiter t i
       waiter = record { task = r; used = placed-used (s .tasks i r) (omega (arith, there)); state = λ e. omega (arith, waited .0) }

@@ -18,7 +18,7 @@ use Rattle.rules.specs.Table.{Table, taskOf, queueOf, queueCount, ableQueue, sl
 use Rattle.rules.specs.Afresh.{lt-or-le}
 use Rattle.rules.specs.Decides.{Decides, equals, first, last}
 use Rattle.rules.specs.Family.{Family, waitersOf, families, Among, ofState, objectsIn, placeOf}
-use Rattle.rules.specs.Sound.{Empty, once, TaskInRange, SoundTasks, MayWait, SoundObjects, SoundQueues, SoundTask}
+use Rattle.rules.specs.Sound.{Empty, once, SoundTasks, MayWait, SoundObjects, SoundQueues, SoundTask}
 use Rattle.rules.specs.declared.Task.{Task}
 use Rattle.laws.specs.queues.Rows.{Found, one, nobody, found, waiting, first-queue, last-queue, by-state, numbers, one-queue}
 use Rattle.laws.specs.queues.Put.{work-at}
@@ -100,13 +100,13 @@ module _ (k : Task) where
       go (waits f a s p) = λ z. omega (arith, waiting a)
       go (nowhere a n p) = absurd (omega arith)
 
-  pub waiter-there : {f : Family} → Among f families → TaskInRange k → (o : ℕ) → o < f .count → placeOf k ≡ waitersOf f o → (k .state ≡ f .state) × (k .object ≡ o)
+  pub waiter-there : {f : Family} → Among f families → k .object < objectsIn (k .state) → (o : ℕ) → o < f .count → placeOf k ≡ waitersOf f o → (k .state ≡ f .state) × (k .object ≡ o)
   waiter-there {f} a r o l e = go place
     where
       go : Place k → (k .state ≡ f .state) × (k .object ≡ o)
       go (ready b p) = absurd (omega (arith, first-queue a))
       go (waits g b s p) =
-          let n : k .object < g .count = omega (arith, r .object, ap objectsIn s, numbers b) in
+          let n : k .object < g .count = omega (arith, r, ap objectsIn s, numbers b) in
           let (x, y) = one-queue b a (k .object) o n l (sym p ∙ e) in
           (s ∙ x, y)
       go (nowhere b n p) = absurd (omega (arith, last-queue a))
@@ -220,6 +220,6 @@ module _ {f : Family} (a : Among f families) {t : Table} (q : SoundQueues t) (o 
   no-queue tasks objects why =
       none-empty q (waitersOf f o) (omega (arith, last-queue a))
       (λ j m p.
-      let (e, x) = waiter-there (taskOf t j) a (tasks j m .inRange) o l p in
+      let (e, x) = waiter-there (taskOf t j) a (tasks j m .inRange .object) o l p in
       let w : MayWait f t j o = subst (MayWait f t j) x (objects .waits j m f a e) in
       ⊎-elim (λ n. n (w .used)) (w .nothing) why)
