@@ -1,7 +1,7 @@
-/* Loaded before the C library of a program: its reads, writes and close as the variable FAULTS asks, on descriptors below 3.
+/* Loaded before the C library of a program: its reads, writes and syncs as the variable FAULTS asks.
    "slow": no call moves more than 7 bytes, every third one is interrupted and every sixteenth one unready.
    "read": reads fail once 40 bytes have come.  "write": writes to standard output fail once 40 bytes have gone, with a short one before.
-   "close": what was written is lost at close. */
+   "sync": what was written is lost when the system is to write it down. */
 #include <errno.h>
 #include <stdlib.h>
 #include <string.h>
@@ -90,11 +90,11 @@ ssize_t write(int fd, const void *buf, size_t count)
     return put;
 }
 
-int close(int fd)
+int fsync(int fd)
 {
-    if (fd == STDOUT_FILENO && asked("close")) {
+    if (asked("sync")) {
         errno = EIO;
         return -1;
     }
-    return (int)made(SYS_close, fd, 0, 0);
+    return (int)made(SYS_fsync, fd, 0, 0);
 }

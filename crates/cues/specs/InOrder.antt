@@ -51,7 +51,7 @@ played-ids (suc n) (x ∷ xs) = go (ℕ_discrete x 0) (played-ids n (pull (x ∷
 -- ---- by their levels
 
 module _ (levels : List ℕ) where
-  ids-later : {xs : List ℕ} (x : ℕ) → All (Le levels x) xs → All (λ later. level_of levels (x - 1) ≤ level_of levels later) (ids xs)
+  ids-later : (x : ℕ) {xs : List ℕ} → All (Le levels x) xs → All (λ later. level_of levels (x - 1) ≤ level_of levels later) (ids xs)
   unfolding ids
   ids-later x none = none
   ids-later x (more {x = y} {xs = ys} p a) = go (ℕ_discrete y 0) p (ids-later x a)

@@ -1,11 +1,14 @@
 // A cue player over `queue`, with no kernel: cues stand in a queue by their levels, the smallest first; one changes its level and
 // moves; a few calls are refused; then all are played in order. No contract can say what is printed: what is played is taken out into a
 // slice first, and that is proved to be in order.
+#![tactic(auto)]
+
 ghost use Rattle.std.specs.Prelude.{◌≡◌, get_or, set};
 ghost use Rattle.queue.specs.Answers.{inserted, move_answer, moved_in};
 ghost use Rattle.cues.specs.Evening.{PlayedInOrder};
 
 use queue::{Answer, Head};
+use std::process::ExitCode;
 use streams::Output;
 
 // What the queue answered, as a line.
@@ -48,7 +51,9 @@ fn line_up(output: Output, cues: &mut [u8], levels: &[u8], cue: u8) -> Output
 
 // A cue changes its level, and where it stands in the queue it moves: `changes` of an evening.
 fn change_level(cues: &mut [u8], levels: &mut [u8], cue: u8, level: u8) -> Answer
-    ensures { (levels.new ≡ set levels.old cue level) × (result ≡ move_answer (set levels.old cue level) cue cues.old) × (cues.new ≡ moved_in (set levels.old cue level) cue cues.old) }
+    ensures levels { levels.new ≡ set levels.old cue level }
+    ensures answer { result ≡ move_answer (set levels.old cue level) cue cues.old }
+    ensures moved { cues.new ≡ moved_in (set levels.old cue level) cue cues.old }
 {
     set_level(levels, cue, level);
     queue::move_behind(cues, levels, cue)
@@ -99,20 +104,17 @@ fn say_cue(output: Output, cue: u8, levels: &[u8]) -> Output {
 // Says which cues were played.
 fn say_played(output: Output, played: &[u8], levels: &[u8]) -> Output {
     let mut printed = output;
-    let mut i = 0;
-    while i < played.len() {
-        let cue = played[i];
-        printed = say_cue(printed, cue, levels);
-        i += 1;
+    for cue in played {
+        printed = say_cue(printed, *cue, levels);
     }
     printed
 }
 
-fn main() {
+fn main(rt: HostRuntime) -> ExitCode {
     let mut levels: [u8; 7] = [3, 1, 2, 1, 3, 2, 1];
     let mut cues: [u8; 6] = [0; 6];
     let mut played: [u8; 6] = [0; 6];
-    let mut output = Output::start();
+    let mut output = Output::start(&rt);
     output = line_up(output, &mut cues, &levels, 0);
     output = line_up(output, &mut cues, &levels, 1);
     output = line_up(output, &mut cues, &levels, 2);
@@ -131,5 +133,5 @@ fn main() {
     if n <= played.len() {
         output = say_played(output, &played[0..n], &levels);
     }
-    output.end(b"cues: cannot write");
+    output.end("cues: cannot write")
 }

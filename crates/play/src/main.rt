@@ -1,37 +1,55 @@
 // Plays a call tape of any length from standard input, or from the file that the one word names, from the fresh table, and prints a line for
 // each call.
-ghost use Rattle.std.specs.Prelude.{◌≡◌, ◌+◌, ◌≤◌, length};
+#![tactic(auto)]
+
+ghost use Rattle.std.specs.Prelude.{◌≡◌, ◌+◌, ◌≤◌, length, IfOk};
 ghost use Rattle.table.specs.Image.{Image};
 
-use libc::{STDERR_FILENO, STDIN_FILENO};
+use std::env::FillError;
+use std::fs::File;
+use std::io;
+use std::io::{ErrorKind, Read, Stdin};
+use std::process::ExitCode;
+use std::rt::Env;
 use streams::Output;
 
-// How many bytes a read brought, 0 at the tape's end, and whether it went well.
+// Where a tape comes from.
 #[derive(Drop)]
-struct Brought {
-    bytes: usize,
-    is_well: bool,
+enum Source {
+    Standard(Stdin),
+    Named(File),
 }
 
-// How many bytes are left over of the input after a turn, at its start; whether to go on; and what has become of the output.
-#[derive(Drop)]
+impl Read for Source {
+    fn read(&mut self, buf: &mut [u8]) -> io::Result<usize> {
+        match self {
+            Source::Standard(input) => input.read(buf),
+            Source::Named(file) => file.read(buf),
+        }
+    }
+}
+
+// How many bytes are left over of the input after a turn, at its start; whether to go on; whether the tape could be read; and what has become
+// of the output.
+#[derive(Clone, Copy)]
 struct Left {
     bytes: usize,
     more: bool,
+    is_read: bool,
     output: Output,
 }
 
-// Reads behind the first `have` bytes of the input.
-fn read_more(tape: i32, input: &mut [u8], have: usize) -> Brought
+// Reads behind the first `have` bytes of the input, and answers how many bytes came, 0 at the tape's end.
+fn read_more(
+    rt: &HostRuntime,
+    tape: &mut Source,
+    input: &mut [u8],
+    have: usize,
+) -> io::Result<usize>
     requires { have ≤ length input.old }
-    ensures { have + result.bytes ≤ length input.old }
+    ensures { IfOk result (λ n. have + n ≤ length input.old) }
 {
-    let space = &mut input[have..];
-    let got = streams::read_some(tape, space);
-    Brought {
-        bytes: io::count(got, space),
-        is_well: got >= 0,
-    }
+    streams::read_some(rt, tape, &mut input[have..])
 }
 
 // Moves the bytes from `from` to `to` of the input to its start, and answers how many they are.
@@ -39,12 +57,8 @@ fn keep(input: &mut [u8], from: usize, to: usize) -> usize
     requires { (from ≤ to) × (to ≤ length input.old) }
     ensures { result ≤ length input.old }
 {
-    let mut n = 0;
-    while n < to - from {
-        input[n] = input[from + n];
-        n += 1;
-    }
-    n
+    input.copy_within(from..to, 0);
+    to - from
 }
 
 fn say_bad(output: Output) -> Output {
@@ -54,14 +68,15 @@ fn say_bad(output: Output) -> Output {
 }
 
 // A tape that cannot be read on is not one that ends: what is left over is no cut call.
-fn break_off(output: Output) -> Left
+fn break_off(rt: &HostRuntime, output: Output, why: io::Error) -> Left
     ensures { result.bytes ≡ 0 }
 {
-    os::fail(b"play: cannot read");
+    streams::fail(rt, "play: cannot read", why);
     Left {
         bytes: 0,
         more: false,
-        output: output,
+        is_read: false,
+        output,
     }
 }
 
@@ -76,6 +91,7 @@ fn end_tape(output: Output, have: usize) -> Left
     Left {
         bytes: 0,
         more: false,
+        is_read: true,
         output: ended,
     }
 }
@@ -100,18 +116,20 @@ fn play_some(
     if ended {
         printed = say_bad(printed);
     }
-    let is_well = printed.is_well;
+    let is_well = printed.is_well();
     let bytes = keep(input, read, to);
     Left {
-        bytes: bytes,
+        bytes,
         more: is_well & !ended,
+        is_read: true,
         output: printed,
     }
 }
 
 // One read, and what it brings played.
 fn turn(
-    tape: i32,
+    rt: &HostRuntime,
+    tape: &mut Source,
     output: Output,
     image: &mut [u8],
     input: &mut [u8],
@@ -121,74 +139,85 @@ fn turn(
     requires { Image image.old × (have ≤ length input.old) }
     ensures { result.bytes ≤ length input.old }
 {
-    let brought = read_more(tape, input, have);
-    let n = brought.bytes;
-    if !brought.is_well {
-        return break_off(output);
+    match read_more(rt, tape, input, have) {
+        Ok(0) => end_tape(output, have),
+        Ok(n) => play_some(output, image, input, have + n, lines),
+        Err(e) => break_off(rt, output, e),
     }
-    if n == 0 {
-        return end_tape(output, have);
-    }
-    play_some(output, image, input, have + n, lines)
 }
 
-// A proved loop has to end, and nothing says that the input does: it counts its turns down from a number that no run uses up.
-fn play_all(tape: i32, image: &mut [u8], input: &mut [u8], lines: &mut [u8]) -> Output
+// A proved loop has to end, and nothing says that the input does: it has as many turns as no run uses up.
+fn play_all(
+    rt: &HostRuntime,
+    tape: &mut Source,
+    image: &mut [u8],
+    input: &mut [u8],
+    lines: &mut [u8],
+) -> Left
     requires { Image image.old }
 {
-    let mut output = Output::start();
-    let mut have = 0;
-    let mut turns = u64::MAX;
-    while 0 < turns {
-        let left = turn(tape, output, image, input, have, lines);
-        output = left.output;
+    let mut left = Left {
+        bytes: 0,
+        more: true,
+        is_read: true,
+        output: Output::start(rt),
+    };
+    for _ in 0..u64::MAX {
+        left = turn(rt, tape, left.output, image, input, left.bytes, lines);
         if !left.more {
-            return output;
+            break;
         }
-        have = left.bytes;
-        turns -= 1;
     }
-    output
+    left
 }
 
-// Opens the file of that name, or says why it cannot and answers a number below 0.
-fn open_named(name: &[u8]) -> i32 {
-    let tape = os::open_read(name);
-    if tape < 0 {
-        io::write_all(STDERR_FILENO, b"play: ");
-        os::fail(name);
+// Opens the file of that name, or says why it cannot.
+fn open_named(rt: &HostRuntime, name: &[u8]) -> Option<Source> {
+    let Ok(name) = str::from_utf8(name) else {
+        let why = io::Error::new(ErrorKind::InvalidFilename, "Not UTF-8");
+        streams::fail(rt, "play: the tape's name", why);
+        return None;
+    };
+    match File::open(rt, name) {
+        Ok(file) => Some(Source::Named(file)),
+        Err(e) => {
+            streams::fail(rt, format_args!("play: {name}"), e);
+            None
+        }
     }
-    tape
 }
 
-// The tape's descriptor, or a number below 0 where there is none, and that has been told.
-fn open_tape() -> i32 {
-    let words = os::arg_count();
-    if words < 2 {
-        return STDIN_FILENO;
+// The tape, or nothing where there is none, and that has been told.
+fn open_tape(rt: &HostRuntime) -> Option<Source> {
+    let mut name = [0u8; 4096];
+    if !matches!(rt.arg(2, &mut name), Err(FillError::NotPresent)) {
+        let _ = eprintln!(rt; "play: more than one tape");
+        return None;
     }
-    if 2 < words {
-        io::write_all(STDERR_FILENO, b"play: more than one tape\n");
-        return -1;
+    match rt.arg(1, &mut name) {
+        Ok(n) => open_named(rt, &name[..n]),
+        Err(FillError::NotPresent) => Some(Source::Standard(rt.stdin())),
+        Err(FillError::TooLong) => {
+            let why = io::Error::new(ErrorKind::InvalidFilename, "File name too long");
+            streams::fail(rt, "play: the tape's name", why);
+            None
+        }
     }
-    let mut name = io::buffer();
-    let n = os::arg(1, &mut name);
-    if os::errno() != 0 {
-        os::fail(b"play: the tape's name");
-        return -1;
-    }
-    open_named(&name[..n])
 }
 
-fn main() {
-    let tape = open_tape();
-    if tape < 0 {
-        return;
-    }
+fn main(rt: HostRuntime) -> ExitCode {
+    let Some(mut tape) = open_tape(&rt) else {
+        return ExitCode::FAILURE;
+    };
     let mut image = [0u8; table::layout::IMAGE_SIZE];
     table::fresh::write_fresh(&mut image);
     let mut input = [0u8; 4096];
     let mut lines = [0u8; 24576];
-    let output = play_all(tape, &mut image, &mut input, &mut lines);
-    output.end(b"play: cannot write");
+    let left = play_all(&rt, &mut tape, &mut image, &mut input, &mut lines);
+    let written = left.output.end("play: cannot write");
+    if left.is_read {
+        written
+    } else {
+        ExitCode::FAILURE
+    }
 }

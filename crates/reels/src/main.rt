@@ -1,7 +1,10 @@
 // The bench's tapes, each played from the fresh table, and what `play` prints of them.
+#![tactic(auto)]
+
 ghost use Rattle.std.specs.Prelude.{◌≡◌, length};
 ghost use Rattle.table.specs.Image.{Image};
 
+use std::process::ExitCode;
 use streams::Output;
 
 fn say_bad(output: Output) -> Output {
@@ -177,10 +180,8 @@ fn wrapping_mark(output: Output) -> Output {
 fn write_waits(tape: &mut [u8])
     requires { length tape.old ≡ 1764 }
 {
-    let mut n = 0;
-    while n < 251 {
+    for n in 0..251 {
         tape[7 * n + 7] = 34;
-        n += 1;
     }
 }
 
@@ -198,10 +199,8 @@ fn each_length(output: Output, kind: u8) -> Output {
     let mut tape = [0u8; 13];
     tape[0] = kind;
     let mut printed = output;
-    let mut n = 1;
-    while n <= 13 {
+    for n in 1..14 {
         printed = play(printed, &tape[0..n]);
-        n += 1;
     }
     printed
 }
@@ -209,21 +208,19 @@ fn each_length(output: Output, kind: u8) -> Output {
 // Every kind that a byte can name, with the interrupt bit and without.
 fn every_kind(output: Output) -> Output {
     let mut printed = output.say(b"every kind at every length\n");
-    let mut n = 0usize;
-    while n < 256 {
-        printed = each_length(printed, n as u8);
-        n += 1;
+    for kind in 0..=u8::MAX {
+        printed = each_length(printed, kind);
     }
     printed
 }
 
-fn main() {
-    let mut output = Output::start();
+fn main(rt: HostRuntime) -> ExitCode {
+    let mut output = Output::start(&rt);
     output = proved_cases(output);
     output = channel_cases(output);
     output = wrapping_mark(output);
     output = nested(output);
     output = run_only(output);
     output = every_kind(output);
-    output.end(b"reels: cannot write");
+    output.end("reels: cannot write")
 }

@@ -1,126 +1,200 @@
 // Reads and writes as a Unix program makes them: a call that a signal interrupts, that nothing is ready for, or that moves a part only, goes
-// on. What fails is answered, and `errno` then says why.
-ghost use Rattle.std.specs.Prelude.{length};
-ghost use Rattle.libc.specs.Io.{Moved};
+// on. What fails is answered, and its error says why.
+#![tactic(auto)]
 
-use libc::STDOUT_FILENO;
-use libc::types::timespec;
+ghost use Rattle.std.specs.Prelude.{◌≡◌, ◌≢◌, ◌≤◌, ◌⊎◌, ◌↔◌, length, IfOk, IfErr, IsNone, IsSome, OnOk, IsTrue};
+ghost use Rattle.std.specs.Io.KnownBytes.{Appends, ReadConsumes, WriteAppends};
+ghost use Rattle.std.specs.IoError.{error_kind};
+ghost use Rattle.std.specs.Process.{exit_status};
+
+use std::fmt::Display;
+use std::fs::{File, Metadata, OpenOptions};
+use std::io::{Error, ErrorKind, Read, Result, Write};
+use std::process::ExitCode;
+use std::time::{Clock, Duration};
+use std::{fs, io, thread};
 
 // Waits for a thousandth of a second: no call that can be had here waits until a descriptor is ready.
-fn pause() {
-    let asked = timespec {
-        tv_sec: 0,
-        tv_nsec: 1000000,
-    };
-    let mut left = timespec {
-        tv_sec: 0,
-        tv_nsec: 0,
-    };
-    libc::nanosleep(&asked, &mut left);
+fn pause(clock: &impl Clock) {
+    thread::sleep(clock, Duration::from_millis(1));
 }
 
-// Whether a call that answered `got` is to be made again: a signal came before it moved a byte, or it can move none yet.
-fn goes_on(got: isize) -> bool {
-    if got >= 0 {
-        return false;
-    }
-    let error = os::errno();
-    if error == libc::EAGAIN {
-        pause();
+// Whether a call that failed so is to be made again: a signal came before it moved a byte, or it can move none yet.
+fn goes_on(clock: &impl Clock, error: &Error) -> bool
+    ensures { IsTrue result ↔ ((error_kind error.now ≡ ErrorKind.WouldBlock) ⊎ (error_kind error.now ≡ ErrorKind.Interrupted)) }
+{
+    let kind = error.kind();
+    if kind == ErrorKind::WouldBlock {
+        pause(clock);
         return true;
     }
-    error == libc::EINTR
+    kind == ErrorKind::Interrupted
 }
 
-// As `libc::read`, but what it answers is bytes, the end of the input (0) or a failure (-1). A proved loop has to end, and nothing says that a
-// descriptor becomes ready: it counts its turns down from a number that no run uses up.
-pub fn read_some(fd: i32, buf: &mut [u8]) -> isize
-    ensures { Moved (length buf.old) result }
+// As `Read::read`, but what it answers is bytes, the end of the input (0) or a failure. A proved loop has to end, and nothing says that a
+// descriptor becomes ready: it has as many turns as no run uses up.
+pub fn read_some<C: Clock, R: Read>(clock: &C, tape: &mut R, buf: &mut [u8]) -> Result<usize>
+    ensures moved { IfOk result (λ n. n ≤ length buf.old) }
+    ensures bytes { ReadConsumes (R.remaining tape.old) (R.remaining tape.new) result buf.new }
+    ensures waited { IfErr result (λ e. error_kind e ≢ ErrorKind.WouldBlock) }
+    ensures retried { IfErr result (λ e. error_kind e ≢ ErrorKind.Interrupted) }
 {
-    let mut turns = u64::MAX;
-    while 0 < turns {
-        let got = libc::read(fd, buf);
-        if !goes_on(got) {
-            return got;
+    for _ in 0..u64::MAX {
+        match tape.read(buf) {
+            Ok(n) => return Ok(n),
+            Err(e) => {
+                if !goes_on(clock, &e) {
+                    return Err(e);
+                }
+            }
         }
-        turns -= 1;
     }
-    -1
+    Err(Error::from(ErrorKind::TimedOut))
 }
 
-// As `libc::write`, in the same way.
-fn write_some(fd: i32, buf: &[u8]) -> isize
-    ensures { Moved (length buf.now) result }
+// As `Write::write`, in the same way.
+fn write_some<C: Clock, W: Write>(clock: &C, to: &mut W, buf: &[u8]) -> Result<usize>
+    ensures moved { IfOk result (λ n. n ≤ length buf.now) }
+    ensures bytes { WriteAppends (W.contents to.old) (W.contents to.new) result buf.now }
 {
-    let mut turns = u64::MAX;
-    while 0 < turns {
-        let got = libc::write(fd, buf);
-        if !goes_on(got) {
-            return got;
+    for _ in 0..u64::MAX {
+        match to.write(buf) {
+            Ok(n) => return Ok(n),
+            Err(e) => {
+                if !goes_on(clock, &e) {
+                    return Err(e);
+                }
+            }
         }
-        turns -= 1;
     }
-    -1
+    Err(Error::from(ErrorKind::TimedOut))
 }
 
-// Writes all of the bytes, and answers whether it could. A write that takes no byte counts as one that failed, or the loop might not end.
-fn write_whole(fd: i32, buf: &[u8]) -> bool {
-    let mut done = 0;
-    while done < buf.len() {
-        let rest = &buf[done..];
-        let put = io::count(write_some(fd, rest), rest);
+// Writes all of the bytes. A write that takes no byte counts as one that failed, or the loop might not end.
+fn write_whole<C: Clock, W: Write>(clock: &C, to: &mut W, buf: &[u8]) -> Result<()>
+    ensures { OnOk result (Appends (W.contents to.old) (W.contents to.new) buf.now) }
+{
+    let mut rest = buf;
+    while !rest.is_empty() {
+        let put = write_some(clock, to, rest)?;
         if put == 0 {
-            return false;
+            return Err(Error::from(ErrorKind::WriteZero));
         }
-        done += put;
+        rest = &rest[put..];
     }
-    true
+    Ok(())
 }
 
-// Closes what was written to, and answers whether nothing of it is lost: there are disks that say only here that they are full. A descriptor
-// that is not open has taken nothing.
-fn close_written(fd: i32) -> bool {
-    if libc::close(fd) == 0 {
-        return true;
+const STANDARD_OUTPUT: &str = "/proc/self/fd/1";
+
+// Standard output once more: it may be open for writing or for reading alone.
+fn reopened(rt: &HostRuntime) -> Result<File> {
+    let mut options = OpenOptions::new();
+    options.append(true);
+    match options.open(rt, STANDARD_OUTPUT) {
+        Ok(file) => Ok(file),
+        Err(_) => File::open(rt, STANDARD_OUTPUT),
     }
-    os::errno() == libc::EBADF
 }
 
-// Text on its way to standard output, and whether all of it could be written so far. Behind a failed write nothing more is written.
-#[derive(Drop)]
+// Has the system write down what it took, where that is a file: there are disks that say only here that they are full. std closes standard
+// output without a word, so this asks before. What is no file, or cannot be asked, has nothing to say.
+fn settle(rt: &HostRuntime) -> Result<()> {
+    let is_file = fs::metadata(rt, STANDARD_OUTPUT).is_ok_and(|place: Metadata| place.is_file());
+    if !is_file {
+        return Ok(());
+    }
+    let Ok(file) = reopened(rt) else {
+        return Ok(());
+    };
+    match file.sync_all() {
+        Err(e) if e.kind() == ErrorKind::InvalidInput => Ok(()),
+        settled => settled,
+    }
+}
+
+// Text on its way to standard output, and why it could not be written, where a write has failed. Behind a failed write nothing more is
+// written.
+#[derive(Clone, Copy)]
 pub struct Output {
-    pub is_well: bool,
+    rt: HostRuntime,
+    pub failure: Option<Error>,
 }
 
 impl Output {
-    pub fn start() -> Output {
-        Output { is_well: true }
+    pub fn start(rt: &HostRuntime) -> Output
+        ensures { IsNone result.failure }
+    {
+        Output {
+            rt: *rt,
+            failure: None,
+        }
     }
 
-    pub fn say(self, text: &[u8]) -> Output {
-        if !self.is_well {
+    // Whether all of it could be written so far.
+    pub fn is_well(&self) -> bool
+        ensures { IsTrue result ↔ IsNone self.now.failure }
+    {
+        self.failure.is_none()
+    }
+
+    pub fn say(self, text: &[u8]) -> Output
+        ensures { IsSome self.failure → result ≡ self }
+    {
+        if !self.is_well() {
             return self;
         }
         Output {
-            is_well: write_whole(STDOUT_FILENO, text),
+            rt: self.rt,
+            failure: write_whole(&self.rt, &mut io::writer(&self.rt), text).err(),
         }
     }
 
     // The number, in decimal digits.
-    pub fn say_number(self, n: u64) -> Output {
-        let mut digits = [0u8; 20];
-        let count = io::decimal(n, &mut digits);
-        self.say(&digits[..count])
+    pub fn say_number(self, n: u64) -> Output
+        ensures { IsSome self.failure → result ≡ self }
+    {
+        let mut digits = itoa::Buffer::new();
+        self.say(digits.format(n).as_bytes())
     }
 
-    // Closes standard output. Where that or a write failed, says on standard error what could not be done, and why.
-    pub fn end(self, what: &[u8]) {
-        if !self.is_well {
-            os::fail(what);
-            return;
+    // Ends the output. Where that or a write failed, says on standard error what could not be done, and why.
+    pub fn end(self, what: &str) -> ExitCode
+        ensures { IsSome self.failure → exit_status result ≡ 1 }
+    {
+        let failure = match self.failure {
+            Some(e) => Some(e),
+            None => settle(&self.rt).err(),
+        };
+        match failure {
+            Some(e) => fail(&self.rt, what, e),
+            None => ExitCode::SUCCESS,
         }
-        if !close_written(STDOUT_FILENO) {
-            os::fail(what);
-        }
+    }
+}
+
+// Says on standard error what could not be done, and why, and answers the status to end with. Where that cannot be written either, nobody
+// is left to be told.
+pub fn fail<D: Display + Drop>(rt: &HostRuntime, what: D, why: Error) -> ExitCode
+    ensures { exit_status result ≡ 1 }
+{
+    let _ = say_failure(rt, what, why);
+    ExitCode::FAILURE
+}
+
+// Where there is no memory left to take the number off, it is said with the rest.
+fn say_failure<D: Display + Drop>(rt: &HostRuntime, what: D, why: Error) -> Result<()> {
+    let Ok(text) = format!(in rt.alloc(); "{why}") else {
+        return eprintln!(rt; "{what}: {why}");
+    };
+    let reason = without_number(&text);
+    eprintln!(rt; "{what}: {reason}")
+}
+
+// The system's words for an error: std puts its number behind them.
+fn without_number(text: &str) -> &str {
+    match text.rsplit_once(" (os error ") {
+        Some((words, _)) => words,
+        None => text,
     }
 }
