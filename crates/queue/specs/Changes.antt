@@ -10,15 +10,15 @@ use Prim.Native.Nat.{ℕ, suc, ◌+◌, ◌-◌, ◌≤◌, ◌<◌}
 use Rattle.std.proofs.Math.Decide.{ℕ_discrete}
 use Rattle.queue.specs.Slots.{key_of, stands, limit, entered, behind, without, replaced, place_of}
 use Rattle.queue.specs.Order.{Le, All, none, more, Ordered, empty, front, one, count, those, other, level, Whole}
-use Rattle.queue.specs.Answers.{head_of, known, insert_answer, remove_answer, move_answer, after, inserted, replaced_in, moved_in, raised_in}
-use Rattle.queue.specs.Stands.{stands_some, count-stands, one_same, one_other}
+use Rattle.queue.specs.Answers.{head_of, known, insert_answer, move_answer, after, inserted, replaced_in}
+use Rattle.queue.specs.Stands.{count-stands, one_same, one_other}
 use Rattle.queue.specs.Room.{nothing_falls}
 use Rattle.queue.specs.Lengths.{length-entered, length-replaced}
 pub use Rattle.queue.specs.Lengths.{length_without}
 use Rattle.queue.specs.Counts.{count-entered, count-without, count-replaced, without-free}
 use Rattle.queue.specs.Keeps.{all_map, le_self, all_opened, all_closed, key_own, entered-ordered, ordered-agree, Agree}
 pub use Rattle.queue.specs.Keeps.{without-ordered}
-use Rattle.queue.specs.Stable.{those-opened, those-closed, those-skip, those-take, behind_last, before_first, without-entered, without-absent, placed}
+use Rattle.queue.specs.Stable.{those-opened, those-closed, those-skip, those-take, behind_last, before_first, without-entered, placed}
 use Rattle.queue.specs.Checked.{stands_all, entered-whole, replaced-whole}
 pub use Rattle.queue.specs.Checked.{without-whole}
 use Rattle.queue.specs.declared.Head.{Head}
@@ -163,29 +163,6 @@ module _ (keys : List ℕ) (id : ℕ) (l : List ℕ) where
 -- ---- a removal; `without-whole`, `without-ordered` and `length_without` have no premise of its own either
 
 module _ (id : ℕ) (l : List ℕ) where
-  removed_by : (P : Bool → Type 0) → (stands (id + 1) l ≡ true → P true) → (stands (id + 1) l ≡ false → P false) → P (made (remove_answer id l))
-  unfolding remove_answer
-  removed_by P done left = go (stands (id + 1) l) refl
-    where
-      go : (b : Bool) → stands (id + 1) l ≡ b → P (made (cond b Done NotThere))
-      go true e = done e
-      go false e = left e
-
-  -- A refusal leaves the queue as it came.
-  pub removed_refused : made (remove_answer id l) ≡ false → without id l ≡ l
-  removed_refused = removed_by (λ b. b ≡ false → without id l ≡ l) (λ e h. absurd (true≢false h)) (λ e h. without-absent id l e)
-
-  -- The id stood there once more where it leaves, and each other as often.
-  pub removed_count : (u : ℕ) → (u ≡ 0 → ⊥) → count u (without id l) + cond (made (remove_answer id l)) (one u (id + 1)) 0 ≡ count u l
-  removed_count u n = removed_by (λ b. count u (without id l) + cond b (one u (id + 1)) 0 ≡ count u l) there (λ e. omega (arith, ap (count u) (without-absent id l e)))
-    where
-      there : stands (id + 1) l ≡ true → count u (without id l) + one u (id + 1) ≡ count u l
-      there e = go (ℕ_discrete (id + 1) u)
-        where
-          go : Dec (id + 1 ≡ u) → count u (without id l) + one u (id + 1) ≡ count u l
-          go (yes p) = let s : 1 ≤ count u l = rw p at (stands_some (id + 1) l e) in omega (arith, count-without u n id l, ap (one u) p, one_same u)
-          go (no p) = omega (arith, count-without u n id l, one_other u (id + 1) p)
-
   -- The others keep their order.
   pub removed_others : (q : ℕ → Bool) → q 0 ≡ false → q (id + 1) ≡ false → those q (without id l) ≡ those q l
   removed_others q f h = those-closed q f (place_of id l) l (placed q (id + 1) f h l)

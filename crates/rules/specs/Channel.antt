@@ -33,10 +33,10 @@ wait_answer c block t = wait_answer_on channels c block (cond (channels.offers t
 
 unfoldable pub wait : (c limit : ℕ) → Table → Table
 wait c limit t =
-    let isThere = channels.offers t c in
+    let is_there = channels.offers t c in
     let takes = taken (delivered (caller_of t) (get_or (present t c) 0 0) (holding c (drop 1 (present t c)) t)) in
     let blocks = waits channels c limit nothing_asked t in
-    cond isThere takes blocks
+    cond is_there takes blocks
 
 -- ---- "A post goes to the end or to the front; with a waiter, the message goes to the first waiter directly and stands in its record"
 

@@ -24,17 +24,17 @@ flags_of t g = (group_of t g).flags
 -- The flags of the mask that are as the test wants them: set, or clear.
 unfoldable pub meeting : (flags : ℕ) → Asked → ℕ
 meeting flags a =
-    let areSet = bit_and flags a.mask in
-    let areClear = bit_xor a.mask areSet in
-    cond (ltb a.test all_clear) areSet areClear
+    let are_set = bit_and flags a.mask in
+    let are_clear = bit_xor a.mask are_set in
+    cond (ltb a.test all_clear) are_set are_clear
 
 -- All of the mask, or any.
 unfoldable pub is_met : (flags : ℕ) → Asked → Bool
 is_met flags a =
-    let wantsAll = eqb a.test all_set || eqb a.test all_clear in
+    let wants_all = eqb a.test all_set || eqb a.test all_clear in
     let all = eqb (meeting flags a) a.mask in
     let any = not (eqb (meeting flags a) 0) in
-    cond wantsAll all any
+    cond wants_all all any
 
 -- "it may consume the flags that met the test"
 unfoldable pub consumed : (flags : ℕ) → Asked → ℕ

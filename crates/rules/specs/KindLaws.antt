@@ -18,20 +18,20 @@ pub data Each (P : Kind → Type 0) : List Kind → Type 0 where
 
 module _ {A : Type 0} where
   -- What holds whatever kind it is, and where there is none.
-  pub told_each : (P : A → Type 0) (l : List Kind) (k : ℕ) (told : Kind → A) (lacking : A) → Each (λ r. P (told r)) l → P lacking → P (told_in l k told lacking)
+  pub told_each : (P : A → Type 0) (told : Kind → A) (l : List Kind) (k : ℕ) (lacking : A) → Each (λ r. P (told r)) l → P lacking → P (told_in l k told lacking)
   unfolding told_in
-  told_each P l k told lacking end o = o
-  told_each P l k told lacking (with {r} {rs} p e) o = go (eqb k r.byte) (told_each P rs k told lacking e o)
+  told_each P told l k lacking end o = o
+  told_each P told l k lacking (with {r} {rs} p e) o = go (eqb k r.byte) (told_each P told rs k lacking e o)
     where
       go : (b : Bool) → P (told_in rs k told lacking) → P (cond b (told r) (told_in rs k told lacking))
       go true q = p
       go false q = q
 
   -- What is told of no kind.
-  pub told_none : (l : List Kind) (k : ℕ) (told : Kind → A) (lacking : A) → Each (λ r. k ≢ r.byte) l → told_in l k told lacking ≡ lacking
+  pub told_none : (k : ℕ) (l : List Kind) (told : Kind → A) (lacking : A) → Each (λ r. k ≢ r.byte) l → told_in l k told lacking ≡ lacking
   unfolding told_in
-  told_none l k told lacking end = refl
-  told_none l k told lacking (with {r} {rs} d e) = rw (ne_eqb k r.byte d) (told_none rs k told lacking e)
+  told_none k l told lacking end = refl
+  told_none k l told lacking (with {r} {rs} d e) = rw (ne_eqb k r.byte d) (told_none k rs told lacking e)
 
 -- What is made of what is told.
 pub told_of_lem : {A B : Type 0} (f : A → B) (l : List Kind) (k : ℕ) (told : Kind → A) (lacking : A) → f (told_in l k told lacking) ≡ told_in l k (λ r. f (told r)) (f lacking)
@@ -62,7 +62,7 @@ narrow s a = record { six = s; four = all_at {P = λ w. w ≤ 4} (omega arith) a
 
 pub widths-narrow : (k : ℕ) → Narrow (widths k)
 unfolding widths
-widths-narrow k = told_each Narrow kinds k (λ r. r.widths) [] (search (end, with, narrow, none, more, leb-true) depth 80 fits 12000) (search (narrow, none, leb-true))
+widths-narrow k = told_each Narrow (λ r. r.widths) kinds k [] (search (end, with, narrow, none, more, leb-true) depth 80 fits 12000) (search (narrow, none, leb-true))
 
 -- The same numbers, with any number of zeros behind them,
 abbrev pub Same : List ℕ → List ℕ → Type 0

@@ -10,8 +10,6 @@ pub mod Move
 pub mod Sound
 pub mod Decides
 pub mod Digits
-pub mod Levels
-pub mod Tested
 pub mod Quantum
 pub mod Task
 pub mod Time

@@ -1,5 +1,5 @@
 -- "Move": how tasks change their places. `put` is the one door; `rotate` is the one other move.
-use Rattle.std.specs.Prelude.{Bool, true, false, cond, ◌&&◌, not, ℕ, zero, suc, ◌+◌, ◌-◌, eqb, ltb, leb}
+use Rattle.std.specs.Prelude.{Bool, true, false, cond, ◌&&◌, not, ℕ, zero, suc, ◌-◌, eqb, ltb}
 use Rattle.queue.specs.Slots.{entered, without, moved}
 use Rattle.rules.specs.Sizes.{task_count, level_count, waits_mutex, delayed, plain}
 use Rattle.rules.specs.Chain.{fresh}
@@ -39,19 +39,19 @@ is_raised old new = eqb (place_of old) (place_of new) && ltb new.work old.work
 -- nothing.) Of several that one call raises each goes before its equals, so the last one raised stands first.
 unfoldable pub put : ℕ → Task → Table → Table
 put i k t =
-    let isTask = ltb i task_count in
-    let isThere = stays (task_of t i) k in
+    let is_task = ltb i task_count in
+    let is_there = stays (task_of t i) k in
     let there = with_task i k t in
     let elsewhere = join (is_raised (task_of t i) k) (place_of k) i (with_task i k (leave (place_of (task_of t i)) i t)) in
-    cond isTask (cond isThere there elsewhere) t
+    cond is_task (cond is_there there elsewhere) t
 
 -- "the caller goes behind its equals, left = quantum": the able task i, at the end of its turn.
 unfoldable pub rotate : ℕ → Table → Table
 rotate i t =
-    let isTask = ltb i task_count in
+    let is_task = ltb i task_count in
     let full = with_task i (with_left (task_of t i).quantum (task_of t i)) t in
     let rotated = with_queue able_queue (moved (works t) i (queue_of t able_queue)) full in
-    cond isTask rotated t
+    cond is_task rotated t
 
 -- ---- the walk
 

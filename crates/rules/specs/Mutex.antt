@@ -38,12 +38,12 @@ wait_answer m block t = wait_answer_on mutexes m block (take_answer m block t) t
 
 unfoldable pub wait : ℕ → ℕ → Table → Table
 wait m limit t =
-    let isFree = not (is_held m t) in
-    let isNested = is_own m t in
+    let is_free = not (is_held m t) in
+    let is_nested = is_own m t in
     let takes = taken (with_hold_of m (written (caller_of t)) 1 t) in
     let nests = taken (with_hold_of m (mutex_of t m).holder ((mutex_of t m).nesting + 1) t) in
     let blocks = waits mutexes m limit nothing_asked t in
-    cond isFree takes (cond isNested nests blocks)
+    cond is_free takes (cond is_nested nests blocks)
 
 -- ---- "Mutex post: nesting less 1; at 0 the releaser moves first, then the first waiter becomes holder with nesting 1 and becomes
 -- plain, outcome 0, or the mutex is free." While the releaser moves, the mutex no longer counts for it.
@@ -55,9 +55,9 @@ post_answer m t = by_caller t (on_one mutexes m t (cond (not (is_own m t)) not_i
 -- The task written w is the new holder; none where w is 0.
 unfoldable pub handed : ℕ → ℕ → Table → Table
 handed m w t =
-    let isNobody = eqb w 0 in
+    let is_nobody = eqb w 0 in
     let holds = put (w - 1) (ready given (task_of t (w - 1))) (with_hold_of m w 1 t) in
-    cond isNobody t holds
+    cond is_nobody t holds
 
 unfoldable pub released : ℕ → Table → Table
 released m t =
@@ -66,7 +66,7 @@ released m t =
 
 unfoldable pub post : ℕ → Table → Table
 post m t =
-    let isNested = ltb 1 (mutex_of t m).nesting in
+    let is_nested = ltb 1 (mutex_of t m).nesting in
     let keeps = with_hold_of m (mutex_of t m).holder ((mutex_of t m).nesting - 1) t in
     let gone = released m t in
-    cond isNested keeps gone
+    cond is_nested keeps gone

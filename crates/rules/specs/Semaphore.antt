@@ -22,10 +22,10 @@ wait_answer s block t = wait_answer_on semaphores s block (cond (semaphores.offe
 
 unfoldable pub wait : ℕ → ℕ → Table → Table
 wait s limit t =
-    let isThere = semaphores.offers t s in
+    let is_there = semaphores.offers t s in
     let takes = taken (with_count_of s ((semaphore_of t s).count - 1) t) in
     let blocks = waits semaphores s limit nothing_asked t in
-    cond isThere takes blocks
+    cond is_there takes blocks
 
 -- ---- "Semaphore post: the first waiter is given it (outcome 0, count unchanged), else count plus 1."
 

@@ -1,6 +1,6 @@
 -- "The table and its sizes". Every field is a number, so that each image of the right length shows some table; which tables are
 -- sound is said in `Sound`.
-use Rattle.std.specs.Prelude.{Bool, true, cond, ◌&&◌, List, [], map, ℕ, ◌+◌, ◌-◌, eqb, get_or, set, replicate}
+use Rattle.std.specs.Prelude.{Bool, cond, ◌&&◌, List, [], map, ℕ, ◌+◌, ◌-◌, eqb, get_or, set, replicate}
 use Rattle.rules.specs.Sizes.{task_count, semaphore_count, mutex_count, group_count, channel_count, most_messages, plain, fresh_quantum}
 use Rattle.rules.specs.declared.Task.{Task}
 use Rattle.rules.specs.declared.Semaphore.{Semaphore}

@@ -1,5 +1,5 @@
 -- "The call tape and its printer".
-use Rattle.std.specs.Prelude.{Bool, true, false, cond, List, [], ◌∷◌, ◌++◌, ℕ, zero, suc, ◌+◌, ◌-◌, ◌*◌, ◌/◌, ◌%◌, ◌<◌, eqb, ltb, length, get_or, take, drop}
+use Rattle.std.specs.Prelude.{Bool, cond, List, [], ◌∷◌, ◌++◌, ℕ, zero, suc, ◌+◌, ◌-◌, ◌*◌, ◌/◌, ◌%◌, ◌<◌, eqb, ltb, length, get_or, take, drop}
 use Rattle.rules.specs.Table.{Table, fresh_table}
 use Rattle.rules.specs.Step.{Outcome, step}
 use Rattle.rules.specs.Kinds.{widths, plain_kind, reading}

@@ -10,11 +10,11 @@ use Rattle.rules.specs.Time.{caller_of}
 unfoldable pub turned : Table → Table
 turned t =
     let i = caller_of t in
-    let noneRuns = eqb t.running 0 in
+    let none_runs = eqb t.running 0 in
     let shorter = put i (with_left ((task_of t i).left - 1) (task_of t i)) t in
     let is_over = eqb (task_of shorter i).left 0 && (eqb shorter.depth 0 && has_peer i shorter) in
     let behind = rotate i shorter in
-    cond noneRuns t (cond is_over behind shorter)
+    cond none_runs t (cond is_over behind shorter)
 
 -- "each task whose mark equals the counter, in rising number: it leaves its queue, the chain from the holder moves, it becomes plain,
 -- with outcome 1 for a wait and 0 for a delay"

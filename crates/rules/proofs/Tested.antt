@@ -19,7 +19,7 @@ use Rattle.rules.specs.declared.Group.{Group}
 use Rattle.rules.specs.declared.Channel.{Channel}
 use Rattle.rules.specs.Sound.{Each, once, Shaped, is_shaped, TaskInRange, is_task_in_range, is_no_task, is_no_semaphore, is_no_mutex, is_no_group, is_no_channel, SoundTask, is_sound_task, SoundSemaphore, is_sound_semaphore, SoundMutex, is_sound_mutex, SoundGroup, is_sound_group, SoundChannel, is_sound_channel, MayWait, may_wait, SoundWait, is_sound_wait, SoundObjects, is_sound_objects, SoundQueues, is_sound_queues, is_worked_out, SoundNumbers, is_sound_numbers, SoundWithin, is_sound_within, SoundRuns, is_sound_runs, Sound, is_sound}
 use Rattle.rules.specs.Family.{Family, place_of}
-use Rattle.rules.specs.Levels.{ready}
+use Rattle.rules.proofs.Levels.{ready}
 use Rattle.rules.specs.Decides.{Decides, equals, at_most, itself, fails, if_so, either, first, last, each_one, each_of_lem}
 
 -- ---- shape and ranges
