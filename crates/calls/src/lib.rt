@@ -1,5 +1,7 @@
 // The way from a call to its service. It promises what the rules say: the answer, the further result and the table, and on a refusal the very
 // bytes as they came. The answer and the further result come back as one number, a struct would come back through memory.
+#![tactic(auto)]
+
 ghost use Rattle.std.specs.Prelude.{◌≡◌};
 ghost use Rattle.rules.specs.Step.{for_interrupts, answer_to, answer, effect, told_by};
 ghost use Rattle.table.specs.Image.{Image, view};

@@ -9,7 +9,7 @@ use Rattle.rules.specs.Sizes.{task_count}
 use Rattle.rules.specs.Table.{Table}
 use Rattle.rules.specs.Move.{next, base_of, fresh_in, put_work}
 use Rattle.rules.specs.Sound.{Shaped}
-use Rattle.rules.specs.Tested.{ends}
+use Rattle.rules.proofs.Tested.{ends}
 use Rattle.rules.specs.Afresh.{here, fresh_is}
 use Rattle.laws.specs.chains.Graph.{work-base, work-fresh}
 use Rattle.columns.specs.Rows.{tabulate}

@@ -1,4 +1,6 @@
 // The chain of holders: who waits for whom, and the working priorities of all tasks worked out together.
+#![tactic(auto)]
+
 ghost use Rattle.std.specs.Prelude.{◌≡◌, ◌+◌, ◌≤◌, ◌<◌};
 ghost use Rattle.rules.specs.Table.{holder_of};
 ghost use Rattle.rules.specs.Move.{next, base_of, fresh_in};

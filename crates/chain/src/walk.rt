@@ -8,7 +8,7 @@ ghost use Rattle.chain.specs.Given.{Given};
 use table::{moves, tasks};
 
 // Where a walk stands, and how many tasks at most it has before it.
-#[derive(Drop)]
+#[derive(Clone, Copy)]
 struct Stand {
     task: usize,
     left: usize,

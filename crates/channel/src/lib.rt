@@ -1,4 +1,6 @@
 // Message queues, called channels here, since a queue is a row of tasks: create, delete, wait, post, abort, flush.
+#![tactic(auto)]
+
 ghost use Rattle.std.specs.Prelude.{◌≡◌, cond, ◌<◌};
 ghost use Rattle.rules.specs.Move.{chosen};
 ghost use Rattle.rules.specs.Object.{block_answer, object_delete_answer, object_delete, object_abort_answer, object_abort};

@@ -1,4 +1,6 @@
 // Groups of flags: create, delete, wait, post, abort.
+#![tactic(auto)]
+
 ghost use Rattle.std.specs.Prelude.{◌≡◌, cond, ◌<◌};
 ghost use Rattle.rules.specs.Table.{asking, asked_by, task_of};
 ghost use Rattle.rules.specs.Move.{chosen};

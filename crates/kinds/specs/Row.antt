@@ -3,7 +3,7 @@ use Rattle.std.specs.Prelude.{Bool, List, [], ◌∷◌, ◌≢◌, ◌≡◌, r
 use Rattle.std.proofs.Common.{sym, ap, ◌∙◌, arith}
 use Rattle.std.proofs.Math.Seq.{drop-nil}
 use Rattle.rules.specs.Kinds.{kinds, told_of, widths, is_interrupt, plain_kind, of_kind, reading}
-use Rattle.rules.specs.KindLaws.{Each, told_none, told_of_lem, Narrow, widths-narrow}
+use Rattle.rules.specs.KindLaws.{Each, told_none, told_of_lem, widths-narrow}
 use Rattle.rules.specs.Tape.{sum, body_length}
 use Rattle.rules.specs.declared.Reading.{Reading}
 use Rattle.rules.specs.declared.Reading.TheVariants.{Says, Unknown}
@@ -23,7 +23,7 @@ row_of k numbers = told_of k (λ r. Has (r.call (λ i. get_or numbers i 0)) (pac
 -- A byte that is in no row.
 pub row_none : (k : ℕ) (numbers : List ℕ) → Each (λ r. k ≢ r.byte) kinds → Lacks ≡ row_of k numbers
 unfolding row_of
-row_none k numbers h = sym (told_none kinds k _ Lacks h)
+row_none k numbers h = sym (told_none k kinds _ Lacks h)
 
 -- Its widths,
 abbrev pub widths_in : Row → ℕ

@@ -1,4 +1,6 @@
 // What a kind byte and its numbers say: the list of kinds, for the tape and for the port.
+#![tactic(auto)]
+
 ghost use Rattle.std.specs.Prelude.{◌≡◌};
 ghost use Rattle.rules.specs.Kinds.{widths, is_interrupt, plain_kind, reading};
 ghost use Rattle.rules.specs.Tape.{body_length};
@@ -40,7 +42,7 @@ pub type Numbers = [u32; 6];
 
 // A kind: its call, and how many bytes of the tape each of its numbers takes, a hexadecimal digit for each, the first number's the lowest;
 // or that the list lacks it. With the call in front the compiler keeps its numbers in registers.
-#[derive(Drop)]
+#[derive(Clone, Copy)]
 pub enum Row {
     Has(rules::Call, u32),
     Lacks,

@@ -1,9 +1,7 @@
 -- The calls on mutexes, case by case.
 use mathlib.Core.Path.{◌≡◌, ◌∙◌}
-use mathlib.Core.Bool.{true, false, not}
 use Prim.Native.Nat.{ℕ, ◌+◌, ◌-◌, ◌≤◌, ◌<◌}
-use lib.Dec.{eqb}
-use borrow.Author.Tests.{le-leb, lt-leb, lt-ltb, le-ltb, eq-eqb, ne_eqb, not-true, not-false}
+use borrow.Author.Tests.{le-leb, lt-leb, lt-ltb, le-ltb, eq-eqb, ne_eqb}
 use Rattle.rules.specs.Sizes.{most_nested, waits_mutex, given, done, nested_too_deep}
 use Rattle.rules.specs.Table.{Table, nothing_asked, task_of, mutex_of, holder_of, mutex_queue, no_mutex, with_mutex}
 use Rattle.rules.specs.Move.{put, walk, ready}
@@ -23,24 +21,24 @@ module _ (i : ℕ) (t : Table) where
     unfolding wait
     takes limit e = rw (← holder, ← caller, eq-eqb _ _ e)
 
-    module _ (held : h ≡ 0 → ⊥) (other : not (eqb h (c + 1)) ≡ true) where
+    module _ (held : h ≡ 0 → ⊥) (other : h ≡ c + 1 → ⊥) where
       pub blocks-answer : (block : ℕ) → block_answer block t ≡ take_answer i block t
-      blocks-answer block = rw (← holder, ← caller, ne_eqb _ _ held, not-true (eqb h (c + 1)) other)
+      blocks-answer block = rw (← holder, ← caller, ne_eqb _ _ held, ne_eqb _ _ other)
 
       pub blocks : (limit : ℕ) → walk (h - 1) (blocked waits_mutex i limit nothing_asked t) ≡ wait i limit t
       unfolding wait waits holder_of
-      blocks limit = rw (← holder, ← caller, ne_eqb _ _ held, not-true (eqb h (c + 1)) other)
+      blocks limit = rw (← holder, ← caller, ne_eqb _ _ held, ne_eqb _ _ other)
 
-    module _ (held : h ≡ 0 → ⊥) (own : not (eqb h (c + 1)) ≡ false) {n : ℕ} (nesting : n ≡ (mutex_of t i).nesting) where
+    module _ (held : h ≡ 0 → ⊥) (own : h ≡ c + 1) {n : ℕ} (nesting : n ≡ (mutex_of t i).nesting) where
       pub deep_answer : (block : ℕ) → most_nested ≤ n → nested_too_deep ≡ take_answer i block t
-      deep_answer block l = rw (← holder, ← caller, ← nesting, ne_eqb _ _ held, not-false (eqb h (c + 1)) own, le-leb _ _ l)
+      deep_answer block l = rw (← holder, ← caller, ← nesting, ne_eqb _ _ held, eq-eqb _ _ own, le-leb _ _ l)
 
       pub nests-answer : (block : ℕ) → n < most_nested → done ≡ take_answer i block t
-      nests-answer block l = rw (← holder, ← caller, ← nesting, ne_eqb _ _ held, not-false (eqb h (c + 1)) own, lt-leb _ _ l)
+      nests-answer block l = rw (← holder, ← caller, ← nesting, ne_eqb _ _ held, eq-eqb _ _ own, lt-leb _ _ l)
 
       pub nests : (limit : ℕ) → taken (with_hold_of i h (n + 1) t) ≡ wait i limit t
       unfolding wait
-      nests limit = rw (← holder, ← caller, ← nesting, ne_eqb _ _ held, not-false (eqb h (c + 1)) own)
+      nests limit = rw (← holder, ← caller, ← nesting, ne_eqb _ _ held, eq-eqb _ _ own)
 
   -- ---- a post: it is nested once less, or let go
 

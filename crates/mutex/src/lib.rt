@@ -1,4 +1,6 @@
 // Mutexes: create, delete, wait, post, abort.
+#![tactic(auto)]
+
 ghost use Rattle.std.specs.Prelude.{◌≡◌, ◌<◌};
 ghost use Rattle.rules.specs.Move.{chosen};
 ghost use Rattle.rules.specs.Object.{taken, object_create_answer, object_delete_answer, object_delete, object_abort_answer, object_abort};

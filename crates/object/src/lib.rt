@@ -1,5 +1,7 @@
 // The calls that every kind of object has, on its numbers: how many there are, the first of their queues, and the byte that says whether
 // number i is in use. A kind stores what is its own.
+#![tactic(auto)]
+
 ghost use Rattle.std.specs.Prelude.{◌≡◌, ◌+◌, ◌<◌};
 ghost use Rattle.rules.specs.Sizes.{done};
 ghost use Rattle.rules.specs.Table.{asking, nothing_asked, task_of, with_task};

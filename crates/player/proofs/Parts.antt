@@ -117,7 +117,7 @@ going_start s l o = record { part = rw (sub-zero (length o)); buffer = pasted-no
 plays-call : (k room : ℕ) (t : Table) (l : List ℕ) {c : Call} {i : Bool} {n : ℕ} → 6 ≤ room → next_in l ≡ Whole c i n
     → let o = serve c i t in plays serve (suc k) room t l ≡ behind (line o) (plays serve k (room - length (line o)) o.table (drop n l))
 unfolding plays_on
-plays-call k room t l h e = plays_next serve k room t l h ∙ ap (plays_on serve t l _) e
+plays-call k room t l h e = plays_next serve k room t l h ∙ ap (plays_on serve t l (λ o m. behind (line o) (plays serve k (room - length (line o)) o.table (drop m l)))) e
 
 behind-behind : (a b : List ℕ) (p : Played) → behind a (behind b p) ≡ behind (a ++ b) p
 behind-behind a b p = rw (append_assoc a b p.text)

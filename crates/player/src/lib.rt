@@ -1,11 +1,13 @@
 // A part of a tape played from a table into a buffer.
+#![tactic(auto)]
+
 ghost use Rattle.std.specs.Prelude.{◌≤◌, length};
 ghost use Rattle.table.specs.Image.{Image};
 ghost use Rattle.player.specs.Part.{Turned, Parted};
 
 // What one turn came to: a call was made and its line written, with how many bytes of the tape it took and where the line ends; there was
 // no whole call, or no room for a line; or there was a kind that the list lacks.
-#[derive(Drop)]
+#[derive(Clone, Copy)]
 pub enum Turn {
     Went(usize, usize),
     Stopped,
@@ -13,7 +15,7 @@ pub enum Turn {
 }
 
 // How many bytes of the tape were read, how many of text were written, and whether a kind that the list lacks ended it.
-#[derive(Drop)]
+#[derive(Clone, Copy)]
 pub struct Part {
     pub read: usize,
     pub written: usize,

@@ -1,12 +1,12 @@
 -- The bytes follow the rules, and 15 is answered exactly where they are no image of a sound table: what `ByteTheorem` states.
-use Rattle.std.specs.Prelude.{◌≡◌, refl, ◌≢◌, Bool, true, false, cond, List, [], ◌∷◌, ◌++◌, ℕ, ◌<◌, length}
+use Rattle.std.specs.Prelude.{◌≡◌, refl, ◌≢◌, Bool, true, false, cond, List, [], ◌∷◌, ◌++◌, ℕ, length}
 use Rattle.std.proofs.Common.{sym, subst, ◌∙◌, inl, inr, true≢false, arith, eq-eqb}
 use Rattle.std.proofs.Math.Path.{ap}
 use Rattle.std.proofs.Math.Decide.{ℕ_discrete}
 use Rattle.rules.specs.Sizes.{not_sound}
 use Rattle.rules.specs.Table.{Table}
 use Rattle.rules.specs.Sound.{Sound, is_sound}
-use Rattle.rules.specs.Tested.{sound-tested, tested-sound}
+use Rattle.rules.proofs.Tested.{sound-tested, tested-sound}
 use Rattle.rules.specs.Step.{Outcome, serve, step, unsound, changes}
 use Rattle.rules.specs.Port.{says, port_step}
 use Rattle.rules.specs.Tape.{Bytes}

@@ -1,7 +1,7 @@
 -- Laws of the list of fields.
 use Rattle.std.specs.Prelude.{Bool, true, false, ◌≢◌, ◌↔◌, ◌≡◌, ℕ, ◌<◌, ◌≤◌, ◌/◌, ◌%◌, eqb, ltb, length}
 use Rattle.std.proofs.Math.Bool.{cond}
-use Rattle.std.proofs.Common.{true≢false, sym, subst, ◌∙◌, arith}
+use Rattle.std.proofs.Common.{true≢false, sym, ◌∙◌, arith}
 use mathlib.Core.List.{List, [], ◌∷◌, ◌++◌}
 use Rattle.std.proofs.Math.Path.{refl, ap}
 use Rattle.std.proofs.Math.Decide.{ℕ_discrete}
@@ -32,7 +32,7 @@ module _ (f i : ℕ) (t : Table) where
   shown_lacking (with {r} {rs} d e) = rw (ne_eqb f r.code d) (shown_lacking e)
 
   -- and a number from which on there is none.
-  pub shown-beyond : {l : List Field} (n : ℕ) → n ≤ i → Each (λ r. r.count ≡ n) l → shown_in l f i t ≡ no_field
+  pub shown-beyond : (n : ℕ) {l : List Field} → n ≤ i → Each (λ r. r.count ≡ n) l → shown_in l f i t ≡ no_field
   unfolding shown_in
   shown-beyond n h end = refl
   shown-beyond n h (with {r} {rs} d e) = rw (d, le-ltb i n h, shown-beyond n h e) (cond_same (eqb f r.code) no_field)

@@ -4,8 +4,7 @@ ghost use Rattle.port.specs.Step.{Freshened};
 use table::layout;
 
 // Any bytes become the image of the fresh table.
-#[unsafe(no_mangle)]
-pub extern "C" fn ntk_fresh(image: &mut [u8]) -> u32
+pub fn ntk_fresh(image: &mut [u8]) -> u32
     ensures { Freshened image.old result image.new }
 {
     if image.len() != layout::IMAGE_SIZE {

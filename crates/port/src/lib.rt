@@ -1,4 +1,6 @@
 // The steps that the C port calls: a kind, six numbers and the table's byte image. Every input is taken.
+#![tactic(auto)]
+
 ghost use Rattle.std.specs.Prelude.{◌≡◌, cond};
 ghost use Rattle.rules.specs.Sizes.{by_interrupt, beyond_range, not_sound};
 ghost use Rattle.table.specs.Image.{Image, view};
@@ -14,7 +16,7 @@ pub mod reasons;
 // How a call was answered; the further result, 0 but for a flush that is done; and the task to run: its number plus 1, 0 for none. The three fill
 // a register.
 #[repr(C)]
-#[derive(Drop)]
+#[derive(Clone, Copy)]
 pub struct NtkOutcome {
     pub answer: u16,
     pub further: u16,
@@ -90,16 +92,14 @@ fn serve_plainly(kind: u8, a: u32, b: u32, c: u32, d: u32, e: u32, f: u32, image
 // The version of this library: major, minor and patch, two digits for each of the last two. The header has the same.
 const VERSION: u32 = 10700;
 
-#[unsafe(no_mangle)]
-pub extern "C" fn ntk_version() -> u32
+pub fn ntk_version() -> u32
     ensures { result ≡ version }
 {
     VERSION
 }
 
 // A call on any bytes.
-#[unsafe(no_mangle)]
-pub extern "C" fn ntk_step(
+pub fn ntk_step(
     kind: u8,
     a: u32,
     b: u32,
@@ -121,8 +121,7 @@ pub extern "C" fn ntk_step(
 }
 
 // The same without the test of the table: for an image that this library alone has changed since `ntk_fresh` wrote it.
-#[unsafe(no_mangle)]
-pub extern "C" fn ntk_serve(
+pub fn ntk_serve(
     kind: u8,
     a: u32,
     b: u32,

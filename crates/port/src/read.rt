@@ -137,8 +137,7 @@ fn single_field(field: u32, number: u32, s: &[u8]) -> u64
 }
 
 // A field of any bytes.
-#[unsafe(no_mangle)]
-pub extern "C" fn ntk_read(field: u32, number: u32, image: &[u8]) -> u64
+pub fn ntk_read(field: u32, number: u32, image: &[u8]) -> u64
     ensures { result ≡ read_of field number image.now }
 {
     if image.len() != table::layout::IMAGE_SIZE {

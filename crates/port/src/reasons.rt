@@ -4,7 +4,7 @@ ghost use Rattle.port.specs.Why.{reason_of};
 
 // A standing rule's number and that of the first record that breaks it; 0 and 0 for none.
 #[repr(C)]
-#[derive(Drop)]
+#[derive(Clone, Copy)]
 pub struct NtkReason {
     pub rule: u32,
     pub number: u32,
@@ -14,8 +14,7 @@ pub struct NtkReason {
 const WRONG_LENGTH: u32 = 0xFF;
 
 // The first rule that any bytes break.
-#[unsafe(no_mangle)]
-pub extern "C" fn ntk_why(image: &[u8]) -> NtkReason
+pub fn ntk_why(image: &[u8]) -> NtkReason
     ensures { (result.rule ≡ (reason_of image.now).rule) × (result.number ≡ (reason_of image.now).number) }
 {
     if image.len() != table::layout::IMAGE_SIZE {

@@ -1,6 +1,8 @@
 // Ordered queues in place, on slices of any length. A slot is a byte: 0 is free, and v holds the id v - 1. The queue is packed to
 // the front, in the order of the keys that the caller lends (a key for each id, the smaller first), and among equals by arrival.
 // No public function asks anything of its caller; each refusal leaves the slots as they came.
+#![tactic(auto)]
+
 ghost use Rattle.std.specs.Prelude.{◌≡◌, length, get_or, drop, ◌+◌, ◌<◌};
 ghost use Rattle.queue.specs.Slots.{first_at, same, from, place_behind, place_before, opened, fallen, closed, entered, without, replaced};
 ghost use Rattle.queue.specs.Slide.{packed_at};
@@ -11,21 +13,21 @@ mod shifts;
 pub mod slides;
 
 // Who is first.
-#[derive(Drop)]
+#[derive(Clone, Copy)]
 pub enum Head {
     Is(u8),
     Nobody,
 }
 
 // Where an id stands.
-#[derive(Drop)]
+#[derive(Clone, Copy)]
 pub enum Found {
     At(usize),
     Nowhere,
 }
 
 // What a change of the queue answers.
-#[derive(Drop)]
+#[derive(Clone, Copy)]
 pub enum Answer {
     Done,
     BeyondKeys,

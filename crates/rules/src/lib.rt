@@ -1,9 +1,10 @@
 // The records and calls that the rules and the code share. What they mean stands in specs/.
+#![tactic(auto)]
 
 // A task. `object` is the number of the object that it waits for, and `due` its due mark; each is 0 where there is none. `mask`, `test` and
 // `consume` are what it asks of the flags that it waits for, 0 where it waits for none. `message` is the last message that it was given, 0 where
 // it has had none.
-#[derive(Drop)]
+#[derive(Clone, Copy)]
 pub struct Task {
     pub used: u8,
     pub base: u8,
@@ -22,14 +23,14 @@ pub struct Task {
     pub message: u32,
 }
 
-#[derive(Drop)]
+#[derive(Clone, Copy)]
 pub struct Semaphore {
     pub used: u8,
     pub count: u32,
 }
 
 // The holder is a task's number plus 1, or 0 for none.
-#[derive(Drop)]
+#[derive(Clone, Copy)]
 pub struct Mutex {
     pub used: u8,
     pub holder: u8,
@@ -37,14 +38,14 @@ pub struct Mutex {
 }
 
 // A group of 32 flags.
-#[derive(Drop)]
+#[derive(Clone, Copy)]
 pub struct Group {
     pub used: u8,
     pub flags: u32,
 }
 
 // A message queue, called a channel here, since a queue is a row of tasks. `held` is how many messages it has; they stand in the table's row of it.
-#[derive(Drop)]
+#[derive(Clone, Copy)]
 pub struct Channel {
     pub used: u8,
     pub capacity: u8,
@@ -52,7 +53,7 @@ pub struct Channel {
 }
 
 // A service call or tick, with its numbers in the order of the tape.
-#[derive(Drop)]
+#[derive(Clone, Copy)]
 pub enum Call {
     TaskCreate(u32, u32, u32),
     TaskDelete(u32),
@@ -90,7 +91,7 @@ pub enum Call {
 }
 
 // What a kind byte and its numbers say: a call, made by an interrupt or not, or a kind that the list lacks.
-#[derive(Drop)]
+#[derive(Clone, Copy)]
 pub enum Reading {
     Says(Call, bool),
     Unknown(bool),

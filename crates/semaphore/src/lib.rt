@@ -1,4 +1,6 @@
 // Semaphores: create, delete, wait, post, abort.
+#![tactic(auto)]
+
 ghost use Rattle.std.specs.Prelude.{cond, ◌<◌};
 ghost use Rattle.rules.specs.Move.{chosen};
 ghost use Rattle.rules.specs.Object.{block_answer, object_create_answer, object_delete_answer, object_delete, object_abort_answer, object_abort};

@@ -1,4 +1,6 @@
 // What every service shares: the test for a refusal, and the waits that end.
+#![tactic(auto)]
+
 ghost use Rattle.std.specs.Prelude.{◌≡◌, not};
 ghost use Rattle.rules.specs.Step.{changes};
 

@@ -5,7 +5,7 @@ use Rattle.rules.specs.Sizes.{channel_count, most_messages, greatest_message}
 use Rattle.rules.specs.declared.Channel.{Channel}
 use Rattle.rules.specs.Table.{Table, channel_of, row_of}
 use Rattle.rules.specs.Sound.{Each, each, implies, SoundChannel, is_sound_channel}
-use Rattle.rules.specs.Tested.{channel_right}
+use Rattle.rules.proofs.Tested.{channel_right}
 use Rattle.rules.specs.Decides.{Decides, same_test, equals, at_most, fails, if_so, first, last, each_one}
 use Rattle.sound.specs.Tests.{unless}
 

@@ -17,8 +17,8 @@ use Rattle.queue.specs.Keeps.{all_map}
 use Rattle.rules.specs.Sizes.{task_count}
 use Rattle.rules.specs.Table.{queue_count, written}
 use Rattle.rules.specs.Sound.{Each, once}
-use Rattle.rules.specs.Tested.{once_most}
-use Rattle.rules.specs.Decides.{Decides, equals, at_most, first, last, both}
+use Rattle.rules.proofs.Tested.{once_most}
+use Rattle.rules.specs.Decides.{Decides, equals, at_most, first, last}
 use Rattle.sound.specs.Tests.{by_cases, always, never, and_first, and_second}
 use Rattle.sound.specs.Packed.{Packed, lead, packed-free, packed_rest}
 

@@ -12,7 +12,7 @@ use Rattle.rules.specs.Table.{Table, task_of, queue_of, queue_count, written, wo
 use Rattle.rules.specs.Family.{of_state, objects_in, place_of}
 use Rattle.rules.specs.Sound.{Each, each, once, Shaped, SoundTask, SoundTasks, SoundQueues}
 use Rattle.rules.specs.Afresh.{lt_or_le}
-use Rattle.rules.specs.Tested.{once_most}
+use Rattle.rules.proofs.Tested.{once_most}
 use Rattle.rules.specs.Decides.{Decides, equals, at_most, itself, first, last, each_one}
 use Rattle.sound.specs.Ready.{worded, worded-ready, worded-shaped}
 use Rattle.laws.specs.queues.Rows.{last_queue, numbers}

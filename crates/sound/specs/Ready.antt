@@ -1,5 +1,5 @@
 -- The word of ready levels is tested along the able queue, once the queues are known to be right.
-use Rattle.std.specs.Prelude.{◌≡◌, refl, ◌⊎◌, ◌≢◌, Bool, ◌&&◌, ◌||◌, ℕ, zero, suc, ◌+◌, ◌-◌, ◌≤◌, ◌<◌, eqb, length, get_or, drop}
+use Rattle.std.specs.Prelude.{◌≡◌, refl, ◌⊎◌, ◌≢◌, Bool, ◌&&◌, ℕ, zero, suc, ◌+◌, ◌-◌, ◌≤◌, ◌<◌, eqb, length, get_or, drop}
 use Rattle.std.proofs.Math.Path.{sym}
 use Rattle.std.proofs.Common.{ap, ◌∙◌, arith, drop_of_length-le, drop-cons, add-one}
 use Rattle.std.proofs.Math.Logic.{inl, inr, ⊎_elim}
@@ -12,11 +12,11 @@ use Rattle.queue.specs.Slots.{key_of, place_of}
 use Rattle.queue.specs.Order.{Ordered, empty, front}
 use Rattle.queue.specs.Keeps.{key_own}
 use Rattle.rules.specs.Sizes.{task_count, level_count, words_round}
-use Rattle.rules.specs.Table.{Table, task_of, queue_of, queue_count, able_queue, slot_in, works, is_able, written, with_ready}
+use Rattle.rules.specs.Table.{Table, task_of, queue_of, able_queue, slot_in, works, is_able, written, with_ready}
 use Rattle.rules.specs.Ready.{is_set, with_level, levels_below}
-use Rattle.rules.specs.Levels.{set-with, set_none, with_word, words_same, ready}
-use Rattle.rules.specs.Sound.{Each, once, HasAble, SoundReady, is_sound_ready, Shaped, SoundQueues, is_sound_queues}
-use Rattle.rules.specs.Tested.{queued}
+use Rattle.rules.proofs.Levels.{set-with, set_none, with_word, words_same, ready}
+use Rattle.rules.specs.Sound.{once, HasAble, SoundReady, is_sound_ready, Shaped, SoundQueues, is_sound_queues}
+use Rattle.rules.proofs.Tested.{queued}
 use Rattle.rules.specs.Decides.{Decides, same_test, equals, itself, either, first, last}
 use Rattle.laws.specs.queues.Put.{work_at}
 use Rattle.laws.specs.queues.Stands.{able-stands, able_there, slot-range, slot_there}

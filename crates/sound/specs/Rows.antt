@@ -12,7 +12,7 @@ use Rattle.rules.specs.declared.Group.{Group}
 use Rattle.rules.specs.Table.{Table, task_of, semaphore_of, mutex_of, group_of, channel_of, row_of, no_task, no_mutex}
 use Rattle.rules.specs.Family.{last_state, of_state, objects_in}
 use Rattle.rules.specs.Sound.{Each, each, implies, marks_in, asks_in, SoundTask, SoundTasks, is_sound_task, is_sound_semaphore, SoundMutex, is_sound_mutex, is_sound_group, is_sound_channel, NotDue}
-use Rattle.rules.specs.Tested.{task_right, semaphore_right, mutex_right, group_right}
+use Rattle.rules.proofs.Tested.{task_right, semaphore_right, mutex_right, group_right}
 use Rattle.rules.specs.Decides.{Decides, same_test, equals, at_most, fails, if_so, first, last, both, each_one}
 use Rattle.sound.specs.Tests.{otherwise, unless}
 

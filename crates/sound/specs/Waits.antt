@@ -8,7 +8,7 @@ use Rattle.rules.specs.Table.{Table, task_of, mutex_of, queue_count, able_queue,
 use Rattle.rules.specs.Family.{Family, Among, families, mutexes, waiters_of, objects_in, place_of}
 use Rattle.rules.specs.Sound.{Each, each, each_of, implies, Shaped, SoundTasks, MayWait, SoundWait, is_sound_wait, SoundQueues}
 use Rattle.rules.specs.Afresh.{lt_or_le}
-use Rattle.rules.specs.Tested.{wait_right}
+use Rattle.rules.proofs.Tested.{wait_right}
 use Rattle.rules.specs.Decides.{Decides, same_test, equals, at_most, itself, fails, if_so, first, last, both, each_one, each_of_lem}
 use Rattle.sound.specs.Ready.{worded}
 use Rattle.laws.specs.queues.Rows.{among-mutexes, of_families, first_queue, last_queue, numbers, one_family, one_queue}

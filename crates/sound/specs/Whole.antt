@@ -1,11 +1,11 @@
 -- What is tested together is the standing rules.
 use Rattle.std.specs.Prelude.{◌≡◌, refl, Bool, true, false, cond, not, ◌&&◌, ◌||◌, List, ℕ, ◌+◌, ◌-◌, ◌≤◌, ◌<◌, eqb, leb}
-use Rattle.std.proofs.Common.{sym, ap, ap₂, ◌∙◌, pos_of_ne-zero, arith, eq-eqb, ne_eqb}
+use Rattle.std.proofs.Common.{ap, ◌∙◌, pos_of_ne-zero, arith, eq-eqb, ne_eqb}
 use Rattle.std.proofs.Math.Bool.{and-true}
 use Rattle.rules.specs.Sizes.{task_count, semaphore_count, mutex_count, group_count, channel_count, most_nested, most_quantum, ticks_round}
 use Rattle.rules.specs.Table.{Table, task_of, semaphore_of, mutex_of, group_of, channel_of, row_of, queue_count, able_queue, first_in, is_able}
 use Rattle.rules.specs.Sound.{Each, each, Shaped, SoundTasks, SoundQueues, is_sound_task, is_sound_semaphore, is_sound_mutex, is_sound_group, is_sound_channel, is_sound_ready, is_sound_queues, is_worked_out, SoundNumbers, is_sound_numbers, is_sound_runs, is_sound_objects, is_sound_within, is_sound}
-use Rattle.rules.specs.Tested.{queued, numbers_right}
+use Rattle.rules.proofs.Tested.{queued, numbers_right}
 use Rattle.rules.specs.Decides.{Decides, same_test, equals, at_most, itself, fails, first, last, both, each_one}
 use Rattle.sound.specs.Ready.{worded, word_apart}
 use Rattle.sound.specs.Rows.{are_not_due, are_tasks_sound, are_objects_sound}

@@ -1,4 +1,6 @@
 // The standing rules, tested on an image: each field in a row over all tasks or objects, then the queues, the working priorities and who runs.
+#![tactic(auto)]
+
 ghost use Rattle.std.specs.Prelude.{◌≡◌};
 ghost use Rattle.rules.specs.Sound.{is_sound_numbers, is_sound_runs, is_sound};
 ghost use Rattle.table.specs.Image.{Image, view};

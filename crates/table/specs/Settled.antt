@@ -1,7 +1,7 @@
 -- A task whose fields were stored, and the moves that make a `put` of it.
 use Rattle.std.specs.Prelude.{◌≡◌, refl, Bool, true, false, cond, ◌&&◌, ℕ, ◌≤◌, ◌<◌, eqb, ltb}
 use Rattle.std.proofs.Math.Path.{sym, ap}
-use Rattle.std.proofs.Common.{ap₂, ◌∙◌, arith, get_or-set_same, set-set, le-ltb, eq-eqb, ne_eqb}
+use Rattle.std.proofs.Common.{◌∙◌, arith, get_or-set_same, set-set, le-ltb, eq-eqb, ne_eqb}
 use Rattle.std.proofs.Math.ListN.{length}
 use Rattle.rules.specs.declared.Task.{Task}
 use Rattle.rules.specs.Sizes.{task_count}

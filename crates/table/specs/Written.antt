@@ -6,7 +6,7 @@ use Rattle.std.proofs.Common.{sym, subst, ◌∙◌, arith}
 use mathlib.Core.List.{List, [], ◌∷◌, ◌++◌}
 use Rattle.std.proofs.Math.Decide.{dec_lt}
 use Rattle.std.proofs.Math.ListN.{get_or, length-append, get_or-eq_default}
-use Rattle.columns.specs.Columns.{columns, entry, Below, Fits as Numbers}
+use Rattle.columns.specs.Columns.{entry, Below, Fits as Numbers}
 use Rattle.columns.specs.Image.{columns-image, image-long, image-bytes, entry-small}
 use Rattle.columns.specs.Rows.{Stands, here, past, last, columns_of, columns_of_long, records_back}
 use Rattle.columns.specs.Runs.{same_run, run_back}

@@ -1,4 +1,6 @@
 // The kernel's table in the bytes that the caller lends, changed in place. docs/IMAGE.md has the layout.
+#![tactic(auto)]
+
 pub mod channels;
 pub mod fresh;
 pub mod groups;

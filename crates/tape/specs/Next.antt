@@ -1,5 +1,5 @@
 -- What stands at the start of a tape.
-use Rattle.std.specs.Prelude.{Bool, true, false, cond, ◌≢◌, ◌≡◌, refl, List, [], ◌∷◌, ℕ, ◌+◌, ◌-◌, ◌≤◌, ◌<◌, ltb, length, get_or, drop}
+use Rattle.std.specs.Prelude.{Bool, true, false, cond, ◌≢◌, ◌≡◌, refl, List, [], ◌∷◌, ℕ, ◌+◌, ◌≤◌, ◌<◌, ltb, length, get_or, drop}
 use Rattle.std.proofs.Common.{sym, ◌∙◌, arith, drop-drop, lt-ltb, le-ltb}
 use Rattle.rules.specs.Kinds.{kinds, widths, plain_kind, of_kind, reading}
 use Rattle.rules.specs.KindLaws.{told_of_lem, Same, reading_same}

@@ -1,4 +1,6 @@
 // The call tape: one call read, one line written.
+#![tactic(auto)]
+
 ghost use Rattle.std.specs.Prelude.{◌≡◌, true, false, [], ◌∷◌, ◌+◌, ◌-◌, ◌≤◌, ◌<◌, length, take, drop};
 ghost use Rattle.rules.specs.Kinds.{widths};
 ghost use Rattle.rules.specs.KindLaws.{Same};
@@ -7,7 +9,7 @@ ghost use Rattle.tape.specs.Next.{next_of, next_in};
 ghost use Rattle.tape.specs.Line.{Wrote, line_of, line_in, bad_in};
 
 // What stands at the start of a tape: a call, made by an interrupt or not, with its length in bytes; a call that is cut; a kind that the list lacks; or the end.
-#[derive(Drop)]
+#[derive(Clone, Copy)]
 pub enum Next {
     Whole(rules::Call, bool, usize),
     Cut,

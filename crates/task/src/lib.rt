@@ -1,4 +1,6 @@
 // Task create, delete, change priority, suspend, resume; the default quantum.
+#![tactic(auto)]
+
 ghost use Rattle.std.specs.Prelude.{◌≡◌, ◌&&◌, ◌<◌};
 ghost use Rattle.rules.specs.Table.{task_of, with_suspend};
 ghost use Rattle.rules.specs.Move.{put, chosen, is_running};

@@ -1,4 +1,6 @@
 // The tick.
+#![tactic(auto)]
+
 ghost use Rattle.std.specs.Prelude.{◌≡◌, ◌-◌, ◌<◌, ◌&&◌, ◌==◌};
 ghost use Rattle.rules.specs.Move.{chosen, has_peer};
 ghost use Rattle.rules.specs.Tick.{turned, is_due, due_ended, due_below, ticked};

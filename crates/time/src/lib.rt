@@ -1,4 +1,6 @@
 // Yield, delay, delay resume; the mark of a tick to come.
+#![tactic(auto)]
+
 ghost use Rattle.std.specs.Prelude.{◌≡◌};
 ghost use Rattle.rules.specs.Move.{chosen};
 ghost use Rattle.rules.specs.Time.{mark_in, yield_answer, yield, delay_answer, delay, delay_resume_answer, delay_resume};

@@ -8,7 +8,7 @@ use Rattle.rules.specs.Table.{Table, task_of, channel_of, row_of, queue_of, queu
 use Rattle.rules.specs.Family.{place_of}
 use Rattle.rules.specs.Sound.{once, Shaped, TaskInRange, SoundTask, SoundChannel, SoundObjects, SoundQueues, Sound}
 use Rattle.rules.specs.Decides.{equals, at_most, fails, if_so}
-use Rattle.rules.specs.Tested.{no_task_lem, no_semaphore_lem, no_mutex_lem, no_group_lem, no_channel_lem}
+use Rattle.rules.proofs.Tested.{no_task_lem, no_semaphore_lem, no_mutex_lem, no_group_lem, no_channel_lem}
 use Rattle.why.specs.declared.Reason.{Reason}
 use Rattle.why.specs.Broken.{Broken, queue_at, slot_at, channel_at, message_at, task_used, task_base, task_work, task_suspend, task_quantum, task_left, task_state, task_object, task_marked, task_due, task_outcome, task_mask, task_test, task_consume, task_message, task_free, task_plain_mark, task_delay_mark, task_left_most, task_asks, task_turn, semaphore_used, semaphore_counts, semaphore_free, mutex_used, mutex_holder, mutex_nesting, mutex_free, mutex_unheld, mutex_held, group_used, group_flags, group_free, channel_used, channel_capacity, channel_held, channel_free, channel_room, message_range, message_unused, wait_used, wait_nothing, wait_apart, holder_used, queue_places, queue_nothing_else, queue_ordered, task_worked, task_not_due, tick_range, depth_range, running_range, running_first, running_able, default_least, default_most, ready_word, ready_levels}
 use Rattle.why.specs.Tests.{why_of, reason, rule_end, kept_in, is_kept}

@@ -26,7 +26,7 @@ module _ (c i : ℕ) (t : Table) where
   kept_lacking (with {r} {rs} d e) = rw (ne_eqb c r.rule d) (kept_lacking e)
 
   -- and so is each by a record from whose number on there is none.
-  pub kept_beyond : {l : List Test} (n : ℕ) → n ≤ i → Every (λ r. r.count ≡ n) l → kept_in l c i t ≡ true
+  pub kept_beyond : (n : ℕ) {l : List Test} → n ≤ i → Every (λ r. r.count ≡ n) l → kept_in l c i t ≡ true
   unfolding kept_in
   kept_beyond n h end = refl
   kept_beyond n h (with {r} {rs} d e) = rw (d, le-ltb i n h, kept_beyond n h e) (cond_same (eqb c r.rule))

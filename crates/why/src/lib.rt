@@ -1,4 +1,6 @@
 // The first standing rule that an image breaks, and the record where: each rule is tested by itself, in the order of the numbers.
+#![tactic(auto)]
+
 ghost use Rattle.std.specs.Prelude.{◌≡◌};
 ghost use Rattle.table.specs.Image.{Image, view};
 ghost use Rattle.why.specs.Tests.{is_kept, record_end, first_at, why_of};
@@ -13,7 +15,7 @@ mod waits;
 mod works;
 
 // A rule of the list and the number of a record that breaks it; 0 and 0 for none.
-#[derive(Drop)]
+#[derive(Clone, Copy)]
 pub struct Reason {
     pub rule: u32,
     pub number: u32,

@@ -11,7 +11,7 @@ use Rattle.rules.specs.Decides.{equals}
 use Rattle.rules.specs.Sizes.{task_count, waits_mutex}
 use Rattle.rules.specs.Chain.{Leads, Ends, Fresh, fresh}
 use Rattle.rules.specs.Afresh.{lt_or_le, fresh_is, fresh_one}
-use Rattle.rules.specs.Table.{Table, task_of, mutex_of, works, written, no_task, no_mutex, with_work, with_task, with_mutex, holder_of}
+use Rattle.rules.specs.Table.{Table, task_of, mutex_of, written, no_task, no_mutex, with_work, with_task, with_mutex, holder_of}
 use Rattle.rules.specs.Move.{next, base_of, fresh_in, put_work, walk}
 use Rattle.rules.specs.declared.Task.{Task}
 use Rattle.rules.specs.declared.Mutex.{Mutex}

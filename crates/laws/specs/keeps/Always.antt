@@ -13,7 +13,7 @@ use Rattle.laws.specs.order.Order.{Made, run}
 pub always_from : {t : Table} (cs : List Made) → Sound t → Sound (run cs t)
 unfolding run
 always_from [] s = s
-always_from (c ∷ cs) s = always_from cs (step-sound s c.call c.bounded c.interrupt)
+always_from {t = t} (c ∷ cs) s = always_from {t = (step c.call c.interrupt t).table} cs (step-sound s c.call c.bounded c.interrupt)
 
 -- So do calls from the fresh table.
 pub always : (cs : List Made) → Sound (run cs fresh_table)

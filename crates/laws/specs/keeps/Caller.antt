@@ -1,5 +1,5 @@
 -- What a call on a sound table starts from, and a caller that takes what it asked for.
-use Rattle.std.specs.Prelude.{◌≡◌, ◌≢◌, true, ◌-◌, ◌<◌}
+use Rattle.std.specs.Prelude.{◌≡◌, ◌≢◌, true, ◌<◌}
 use Rattle.std.proofs.Math.Path.{refl}
 use Rattle.std.proofs.Common.{arith}
 use Rattle.rules.specs.Sizes.{task_count, given}
@@ -10,7 +10,6 @@ use Rattle.rules.specs.Object.{taken}
 use Rattle.laws.specs.keeps.Becomes.{caller, caller-used}
 use Rattle.laws.specs.keeps.Running.{caller-able}
 use Rattle.laws.specs.keeps.Records.{outcome_right}
-use Rattle.rules.specs.Task.{suspend}
 use Rattle.laws.specs.keeps.Moves.{BeforeChoice, sound-before, goes_on_keeps}
 
 -- The caller takes what it asked for.

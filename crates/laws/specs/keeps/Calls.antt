@@ -9,7 +9,6 @@ use Rattle.rules.specs.Sound.{Sound}
 use Rattle.rules.specs.Time.{mark_in, yield, delay, delay_resume}
 use Rattle.rules.specs.Lock.{lock, unlock}
 use Rattle.rules.specs.Quantum.{quantum_of, set_default}
-use Rattle.rules.specs.Object.{waits}
 use Rattle.rules.specs.Semaphore as semaphore
 use Rattle.rules.specs.Family.{of_state}
 use Rattle.rules.specs.Mutex as mutex

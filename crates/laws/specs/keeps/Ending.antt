@@ -76,7 +76,7 @@ module _ (q : ℕ) (l : q < queue_count) (d : q ≢ able_queue) where
   ended_all_lem {t} (suc n) outcome o h most =
       pick (Emptied q) equals
       (λ e. record { midway = h; empty = e })
-      (λ some. ended_all_lem n outcome o (ended_keeps h (first_waiter h.settled q l d some) outcome o) (omega (arith, most, one_fewer h.settled outcome some)))
+      (λ some. ended_all_lem {t = ended outcome (first_in q t - 1) t} n outcome o (ended_keeps h (first_waiter h.settled q l d some) outcome o) (omega (arith, most, one_fewer h.settled outcome some)))
 
   pub emptied_all : {t : Table} → BeforeChoice t → Emptied q (emptied q t)
   emptied_all h = ended_all_lem task_count object_deleted (omega arith) h (tally_most _ task_count)

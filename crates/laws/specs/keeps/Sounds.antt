@@ -4,14 +4,14 @@ use Rattle.std.proofs.Common.{arith}
 use Rattle.queue.specs.Order.{count, may_precede, fits, is_ordered}
 use Rattle.rules.specs.Sizes.{not_sound}
 use Rattle.rules.specs.Chain.{leads, smallest, fresh}
-use Rattle.rules.specs.Table.{Table, fresh_table, able_queue, first_in, is_able, works, with_running, holder_of}
+use Rattle.rules.specs.Table.{Table, fresh_table, is_able, works, with_running, holder_of}
 use Rattle.rules.specs.Decides.{itself}
 use Rattle.rules.specs.Move.{next, fresh_in, chosen}
 use Rattle.rules.specs.Ready.{levels_below}
 use Rattle.rules.specs.Sound.{Sound, each, is_shaped, marks_in, is_task_in_range, is_no_task, is_no_semaphore, is_no_mutex, is_no_group, is_no_channel, asks_in, is_sound_task, is_sound_semaphore, is_sound_mutex, is_sound_group, is_sound_channel, may_wait, is_sound_wait, each_of, is_sound_objects, is_sound_ready, is_sound_queues, is_worked_out, is_sound_numbers, is_sound_within, is_sound_runs, is_sound, SoundWithin, NotDue}
 use Rattle.rules.specs.Family.{of_state, place_of}
-use Rattle.rules.specs.Tested.{sound-tested, tested-sound}
-use Rattle.rules.specs.Step.{answer, effect, Bounded, serve, step}
+use Rattle.rules.proofs.Tested.{sound-tested, tested-sound}
+use Rattle.rules.specs.Step.{effect, Bounded, serve, step}
 use Rattle.rules.specs.declared.Call.{Call}
 use Rattle.laws.specs.queues.Put.{pick}
 use Rattle.laws.specs.keeps.Running.{chosen-runs, chosen_one}

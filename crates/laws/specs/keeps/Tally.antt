@@ -5,7 +5,7 @@ use Rattle.std.proofs.Common.{sym, ◌∙◌, eq-or-lt_of_le, le_of_suc-le-suc, 
 use Rattle.std.proofs.Math.Logic.{⊎_elim}
 use Prim.Native.Nat.{ℕ, zero, suc, ◌+◌, ◌≤◌, ◌<◌}
 use Rattle.rules.specs.Sound.{once}
-use Rattle.rules.specs.Tested.{once_most}
+use Rattle.rules.proofs.Tested.{once_most}
 
 -- How many of the first n pass the test.
 unfoldable pub tally : (ℕ → Bool) → ℕ → ℕ

@@ -1,16 +1,15 @@
 -- No rings as a standing rule: each call keeps it, if a mutex wait that closes a ring is refused.
 use Rattle.std.specs.Prelude.{◌≡◌, ◌⊎◌, ◌≢◌, Bool, true, false, cond, not, ◌&&◌, ℕ, zero, suc, ◌+◌, ◌-◌, ◌≤◌, ◌<◌, eqb, ltb, drop}
 use Rattle.std.proofs.Math.Path.{refl, ap, fun_ext}
-use Rattle.std.proofs.Common.{◌∙◌, inl, inr, ⊎_elim, arith, get_or-set_same, eqb-true}
+use Rattle.std.proofs.Common.{◌∙◌, inl, inr, ⊎_elim, arith, get_or-set_same}
 use mathlib.Core.List.{List, []}
-use Rattle.std.proofs.Math.Decide.{ℕ_discrete}
 use Rattle.std.specs.Int.Bits.{bit_or}
 use Rattle.std.proofs.Math.ListN.{length, get_or}
 use Rattle.std.proofs.lemmas.Bool.{eqb-false}
 use Rattle.rules.specs.Sizes.{task_count, mutex_count, delayed, waits_mutex, given, timed_out, object_deleted}
 use Rattle.rules.specs.Chain.{after, Leads}
 use Rattle.rules.specs.Afresh.{lt_or_le}
-use Rattle.rules.specs.Table.{Table, Asked, nothing_asked, fresh_table, task_of, semaphore_of, mutex_of, holder_of, group_of, group_queue, mutex_queue, semaphore_queue, channel_queue, slot_in, first_in, is_able, written, no_task, no_mutex, held_by, with_hold, with_mutex, with_left, asking, asked_by}
+use Rattle.rules.specs.Table.{Table, Asked, nothing_asked, fresh_table, task_of, semaphore_of, mutex_of, holder_of, group_queue, mutex_queue, semaphore_queue, channel_queue, slot_in, first_in, written, no_task, no_mutex, held_by, with_hold, with_mutex, with_left, asking, asked_by}
 use Rattle.rules.specs.Family.{Family, semaphores, mutexes, groups, channels, waiters_of}
 use Rattle.rules.specs.Move.{put, rotate, next, walk, ready, ended, ended_all, chosen, has_peer}
 use Rattle.rules.specs.Task.{create, delete, change_priority, suspend, resume}
@@ -33,7 +32,7 @@ use Rattle.rules.specs.declared.Task.{Task}
 use Rattle.rules.specs.declared.Mutex.{Mutex}
 use Rattle.rules.specs.declared.Call.{Call}
 use Rattle.rules.specs.declared.Call.TheVariants.{TaskCreate, TaskDelete, ChangePriority, Suspend, Resume, Yield, Delay, DelayResume, Lock, Unlock, Tick, SetDefaultQuantum, SemaphoreCreate, SemaphoreDelete, SemaphoreWait, SemaphorePost, SemaphoreAbort, MutexCreate, MutexDelete, MutexWait, MutexPost, MutexAbort, GroupCreate, GroupDelete, GroupWait, GroupPost, GroupAbort, ChannelCreate, ChannelDelete, ChannelWait, ChannelPost, ChannelAbort, ChannelFlush}
-use Rattle.laws.specs.queues.Put.{whichever, whichever₃, Stored, put_out, rotate_out, put-stored, rotate-stored, walk_inv, sized}
+use Rattle.laws.specs.queues.Put.{whichever, whichever₃, Stored, put_out, rotate_out, put-stored, rotate-stored, walk_inv}
 use Rattle.laws.specs.queues.Fields.{put-size, walk_rest, walk-size, ended_rest}
 use Rattle.laws.specs.queues.Queues.{mutex-queued}
 use Rattle.laws.specs.queues.Rows.{among-mutexes}

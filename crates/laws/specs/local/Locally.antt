@@ -1,14 +1,14 @@
 -- The calls with walks that stop early in place of walks, as code makes them on any image. On a sound table without rings they change what the calls
 -- of the rules change.
-use Rattle.std.specs.Prelude.{◌≡◌, ◌≢◌, Bool, true, false, not, ◌&&◌, ℕ, zero, suc, ◌+◌, ◌-◌, ◌%◌, ◌≤◌, ◌<◌, eqb, ltb}
+use Rattle.std.specs.Prelude.{◌≡◌, ◌≢◌, Bool, true, false, not, ℕ, zero, suc, ◌+◌, ◌-◌, ◌%◌, ◌≤◌, ◌<◌, eqb, ltb}
 use Rattle.std.proofs.Math.Path.{refl, sym, ap}
-use Rattle.std.proofs.Common.{◌∙◌, inl, inr, ⊎_elim, arith, eqb-true}
+use Rattle.std.proofs.Common.{◌∙◌, ⊎_elim, arith}
 use Rattle.std.proofs.Math.Bool.{cond}
 use Rattle.std.specs.Int.Bits.{bit_or}
 use Rattle.std.proofs.lemmas.Bool.{eqb-false}
-use Rattle.rules.specs.Sizes.{task_count, mutex_count, semaphore_count, group_count, channel_count, ticks_round, delayed, waits_mutex, given, timed_out, aborted, object_deleted}
+use Rattle.rules.specs.Sizes.{task_count, mutex_count, group_count, ticks_round, delayed, waits_mutex, given, timed_out, aborted, object_deleted}
 use Rattle.rules.specs.Afresh.{lt_or_le}
-use Rattle.rules.specs.Table.{Table, Asked, nothing_asked, task_of, semaphore_of, mutex_of, holder_of, queue_count, able_queue, semaphore_queue, mutex_queue, group_queue, channel_queue, slot_in, first_in, is_able, written, no_task, asking, asked_by, with_base, with_tick}
+use Rattle.rules.specs.Table.{Table, Asked, nothing_asked, task_of, semaphore_of, mutex_of, holder_of, queue_count, able_queue, semaphore_queue, mutex_queue, group_queue, channel_queue, slot_in, first_in, written, no_task, asked_by, with_base, with_tick}
 use Rattle.rules.specs.Family.{Family, semaphores, mutexes, groups, channels, waiters_of}
 use Rattle.rules.specs.Messages.{present, holding}
 use Rattle.rules.specs.Move.{put, next, fresh_in, walk, away, ready, ended, ended_all}
@@ -26,14 +26,11 @@ use Rattle.rules.specs.Channel as channel
 use Rattle.rules.specs.Tick.{turned, is_due, due_ended, due_below, ticked}
 use Rattle.rules.specs.Sound.{Each, WorkedOut, Sound, SoundWithin}
 use Rattle.rules.specs.Step.{change_by}
-use Rattle.rules.specs.declared.Task.{Task}
 use Rattle.rules.specs.declared.Call.{Call}
 use Rattle.rules.specs.declared.Call.TheVariants.{TaskCreate, TaskDelete, ChangePriority, Suspend, Resume, Yield, Delay, DelayResume, Lock, Unlock, Tick, SetDefaultQuantum, SemaphoreCreate, SemaphoreDelete, SemaphoreWait, SemaphorePost, SemaphoreAbort, MutexCreate, MutexDelete, MutexWait, MutexPost, MutexAbort, GroupCreate, GroupDelete, GroupWait, GroupPost, GroupAbort, ChannelCreate, ChannelDelete, ChannelWait, ChannelPost, ChannelAbort, ChannelFlush}
 use Rattle.laws.specs.queues.Put.{sized}
 use Rattle.laws.specs.queues.Rows.{first_queue, last_queue}
-use Rattle.laws.specs.chains.Walk.{walk_on_past}
 use Rattle.laws.specs.chains.Graph.{ends-sized, holder-written, alike-worked}
-use Rattle.laws.specs.keeps.Becomes.{caller}
 use Rattle.laws.specs.keeps.Running.{caller-able}
 use Rattle.laws.specs.keeps.Moves.{Midway, BeforeChoice, ended_keeps}
 use Rattle.laws.specs.keeps.Ending.{slot-waiter, first_waiter, emptied_all, dues_keep, turned_keeps, counted_keeps}

@@ -5,7 +5,7 @@ use Rattle.std.proofs.Math.Path.{fun_ext}
 use Rattle.std.proofs.Math.Decide.{ℕ_discrete}
 use Rattle.rules.specs.Sizes.{task_count, mutex_count, waits_mutex}
 use Rattle.rules.specs.Table.{Table, task_of, holder_of, queue_count, mutex_queue, first_in, with_work}
-use Rattle.rules.specs.Family.{Family, families, of_state, objects_in, place_of}
+use Rattle.rules.specs.Family.{of_state, objects_in, place_of}
 use Rattle.rules.specs.Move.{put, next, base_of, put_work}
 use Rattle.rules.specs.Sound.{Each, SoundQueues, SoundWithin}
 use Rattle.rules.specs.declared.Task.{Task}

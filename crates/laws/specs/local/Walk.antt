@@ -8,8 +8,8 @@ use Rattle.rules.specs.Sizes.{task_count, mutex_count, waits_mutex}
 use Rattle.rules.specs.Chain.{after, Leads, Ends, leads}
 use Rattle.rules.specs.Afresh.{leads_exact}
 use Rattle.rules.specs.Walk.{walk_on}
-use Rattle.rules.specs.Table.{Table, Asked, nothing_asked, task_of, mutex_of, holder_of, mutex_queue, is_able, written, no_task, no_mutex, with_hold, with_base, with_mutex, with_state, with_asked}
-use Rattle.rules.specs.Family.{mutexes, of_state}
+use Rattle.rules.specs.Table.{Table, nothing_asked, task_of, mutex_of, holder_of, mutex_queue, is_able, written, no_task, no_mutex, with_hold, with_base, with_mutex, with_state, with_asked}
+use Rattle.rules.specs.Family.{of_state}
 use Rattle.rules.specs.Move.{put, next, base_of, fresh_in, put_work, walk, away}
 use Rattle.rules.specs.Object.{limited, blocked}
 use Rattle.rules.specs.Mutex.{with_hold_of}

@@ -21,7 +21,7 @@ use Rattle.queue.specs.Slots.{first_at, from, push, pull, opened, closed}
 use Rattle.queue.specs.Order.{count, may_precede, fits, is_ordered}
 use Rattle.rules.specs.Sound.{each, is_shaped, marks_in, is_task_in_range, is_no_task, is_no_semaphore, is_no_mutex, is_no_group, is_no_channel, asks_in, is_sound_task, is_sound_semaphore, is_sound_mutex, is_sound_group, is_sound_channel, may_wait, is_sound_wait, each_of, is_sound_objects, is_sound_ready, is_sound_queues, is_worked_out, is_sound_numbers, is_sound_within, is_sound_runs, is_sound}
 use Rattle.rules.specs.Family.{of_state, place_of}
-use Rattle.rules.specs.Tested.{tested-sound}
+use Rattle.rules.proofs.Tested.{tested-sound}
 use Rattle.rules.specs.Chain.{leads, smallest, fresh}
 use Rattle.rules.specs.Walk.{walk_on}
 use Rattle.rules.specs.Table.{is_able, works}

@@ -6,7 +6,7 @@ use Rattle.queue.specs.Slots.{first_at}
 use Rattle.rules.specs.Sizes.{task_count, channel_count, test_count, done, beyond_range, not_in_use, in_use, bad_value, by_interrupt, none_running, while_locked, nothing_to_take, not_sound}
 use Rattle.rules.specs.Table.{Table, task_of, semaphore_of, mutex_of, channel_of, is_used}
 use Rattle.rules.specs.Decides.{Decides, equals, at_most, itself, fails, both}
-use Rattle.rules.specs.Tested.{sound}
+use Rattle.rules.proofs.Tested.{sound}
 use Rattle.rules.specs.Task.{on_task, create_answer, delete_answer, priority_answer, suspend_answer, resume_answer}
 use Rattle.rules.specs.Time.{caller_of, by_caller, yield_answer, delay_answer, delay_resume_answer}
 use Rattle.rules.specs.Lock.{lock_answer, unlock_answer}

@@ -120,9 +120,9 @@ pub channel-create_is : (c capacity : ℕ) (t : Table)
 unfolding channel.create_answer object_create_answer
 channel-create_is c capacity t = go (leb channel_count c) (is_used (channel_of t c).used) (right_capacity capacity done)
   where
-    go : (isBeyond isThere : Bool) (n : ℕ)
-        → cond (eqb (cond isBeyond beyond_range (cond isThere in_use done)) done) n (cond isBeyond beyond_range (cond isThere in_use done)) ≡ cond isBeyond beyond_range (cond isThere in_use n)
-    go true isThere n = refl
+    go : (is_beyond is_there : Bool) (n : ℕ)
+        → cond (eqb (cond is_beyond beyond_range (cond is_there in_use done)) done) n (cond is_beyond beyond_range (cond is_there in_use done)) ≡ cond is_beyond beyond_range (cond is_there in_use n)
+    go true is_there n = refl
     go false true n = refl
     go false false n = refl
 

@@ -8,7 +8,7 @@ use Rattle.rules.specs.Table.{Table, fresh_table}
 use Rattle.rules.specs.Sound.{Sound}
 use Rattle.rules.specs.Step.{Bounded, serve, step}
 use Rattle.rules.specs.Kinds.{kinds, plain_kind, of_kind, reading, spelled, numbers_of}
-use Rattle.rules.specs.KindLaws.{Each, end, with, told_each, all_at, widths-narrow}
+use Rattle.rules.specs.KindLaws.{end, with, told_each, all_at, widths-narrow}
 use Rattle.rules.specs.Tape.{Bytes, little, numbers, body_length, call_in, printed_of, printed, tape}
 use Rattle.rules.specs.declared.Call.{Call}
 use Rattle.rules.specs.declared.Reading.{Reading}
@@ -53,7 +53,7 @@ bounded c a = all_at {P = λ n. n < ticks_round} (omega arith) a
 
 pub kind-bounded : (k : ℕ) (ns : List ℕ) (interrupt : Bool) → ((i : ℕ) → get_or ns i 0 < ticks_round) → BoundedIn (of_kind k ns interrupt)
 unfolding of_kind spelled
-kind-bounded k ns interrupt small = told_each BoundedIn kinds k _ _ (search (end, with, bounded, none, more, small) depth 40 fits 5000) tt
+kind-bounded k ns interrupt small = told_each BoundedIn _ kinds k _ (search (end, with, bounded, none, more, small) depth 40 fits 5000) tt
 
 reading-bounded : (kind : ℕ) (body : List ℕ) → Bytes body → BoundedIn (call_in kind body)
 unfolding call_in reading

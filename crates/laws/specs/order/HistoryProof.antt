@@ -19,7 +19,7 @@ use Rattle.rules.specs.Move.{put, next, chosen}
 use Rattle.rules.specs.Task.{delete}
 use Rattle.rules.specs.Time.{caller_of}
 use Rattle.rules.specs.Family.{channels}
-use Rattle.rules.specs.Object.{has_waiter, taken, object_delete}
+use Rattle.rules.specs.Object.{has_waiter, object_delete}
 use Rattle.rules.specs.Messages.{present, holding}
 use Rattle.rules.specs.Channel.{delivered, with_posted}
 use Rattle.rules.specs.Channel as channel
@@ -245,7 +245,7 @@ module _ (c : ℕ) where
       append_assoc g x (present u c) ∙ ap (λ (r : List ℕ). g ++ r) (one_call s m.interrupt c m.call).same ∙ sym (placed-behind y g (present t c)) in
       ap (λ (r : List ℕ). g ++ r) (append_assoc x rest last)
       ∙ sym (append_assoc g x (rest ++ last))
-      ∙ line_is (step-sound s m.call m.bounded m.interrupt) ms (g ++ x)
+      ∙ line_is {t = (step m.call m.interrupt t).table} (step-sound s m.call m.bounded m.interrupt) ms (g ++ x)
       ∙ ap (λ (n : ℕ). line_from c ms u n ((g ++ x) ++ present u c)) (length-append g x)
       ∙ ap (λ (l : List ℕ). line_from c ms u (length g + length x) l) there
 
@@ -257,7 +257,7 @@ module _ (c : ℕ) where
       let x = came_out c m t in
       let y = came_in c m t in
       append_assoc x (out c ms u) (present (run ms u) c)
-      ∙ ap (λ (r : List ℕ). x ++ r) (turn_is (step-sound s m.call m.bounded m.interrupt) ms others)
+      ∙ ap (λ (r : List ℕ). x ++ r) (turn_is {t = (step m.call m.interrupt t).table} (step-sound s m.call m.bounded m.interrupt) ms others)
       ∙ sym (append_assoc x (present u c) (posted c ms u))
       ∙ ap (λ (r : List ℕ). r ++ posted c ms u) ((one_call s m.interrupt c m.call).same ∙ placed_last y (present t c) first)
       ∙ append_assoc (present t c) (messages_of y) (posted c ms u)

@@ -1,9 +1,9 @@
 -- Who stands beside whom in an ordered queue: equals stand together.
-use Rattle.std.specs.Prelude.{◌≡◌, refl, ◌⊎◌, ◌≢◌, Bool, true, false, cond, not, ◌&&◌, List, [], ◌∷◌, ℕ, zero, suc, ◌+◌, ◌-◌, ◌≤◌, ◌<◌, eqb, length, get_or}
+use Rattle.std.specs.Prelude.{◌≡◌, refl, ◌⊎◌, ◌≢◌, Bool, true, false, cond, List, [], ◌∷◌, ℕ, zero, suc, ◌+◌, ◌-◌, ◌≤◌, ◌<◌, eqb, length, get_or}
 use Rattle.std.proofs.Common.{sym, ap, ◌∙◌, inl, inr, ⊎_elim, not-suc-le-zero, arith, eqb-true, eq-eqb, ne_eqb, ltb-true}
 use Rattle.std.proofs.Math.Decide.{ℕ_discrete}
 use Rattle.queue.specs.Slots.{key_of, first_at, same, stands}
-use Rattle.queue.specs.Order.{All, none, more, Le, Ordered, empty, front, one, count, level}
+use Rattle.queue.specs.Order.{All, none, more, Ordered, empty, front, one, count, level}
 use Rattle.queue.specs.Stands.{count-stands, one_same}
 use Rattle.rules.specs.Afresh.{lt_or_le}
 

@@ -16,13 +16,13 @@ use Rattle.rules.specs.Table.{Table, task_of, queue_of, queue_count, able_queue,
 use Rattle.rules.specs.Family.{place_of}
 use Rattle.rules.specs.Move.{leave, join, stays, is_raised, put, rotate, walk}
 use Rattle.rules.specs.Sound.{Each, once, Shaped, SoundReady, SoundQueues}
-use Rattle.rules.specs.Tested.{once_most}
+use Rattle.rules.proofs.Tested.{once_most}
 use Rattle.rules.specs.declared.Task.{Task}
 use Rattle.rules.specs.declared.Mutex.{Mutex}
 use Rattle.laws.specs.queues.Stands.{able-place}
 use Rattle.laws.specs.queues.Ready.{same_ready, shifted-ready, resting_ready}
 use Rattle.laws.specs.queues.Shapes.{mutex-shaped}
-use Rattle.laws.specs.queues.Put.{shifted, put_out, put-moves, put-stays, rotate_in, able_left, leave_inv, queue_other, put-stored, task-put, task-put_same, part-put, part-rotate, place_same, work_at, works-put, works-rotate, queue-shaped, task-shaped, put-shaped, rotate-shaped, walk_inv}
+use Rattle.laws.specs.queues.Put.{shifted, put_out, put-moves, put-stays, rotate_in, able_left, leave_inv, queue_other, put-stored, task-put, task-put_same, part-put, part-rotate, place_same, work_at, works-put, works-rotate, queue-shaped, put-shaped, rotate-shaped, walk_inv}
 
 -- ---- one queue
 

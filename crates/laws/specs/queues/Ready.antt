@@ -1,5 +1,5 @@
 -- The word of ready levels is kept: a task that leaves the able queue takes its level's bit along unless an equal stays, one that joins it sets it.
-use Rattle.std.specs.Prelude.{◌≡◌, ◌⊎◌, ◌≢◌, ◌↔◌, Bool, true, cond, not, ◌&&◌, ◌||◌, List, ℕ, ◌+◌, ◌-◌, ◌≤◌, ◌<◌, eqb, ltb, get_or}
+use Rattle.std.specs.Prelude.{◌≡◌, ◌⊎◌, ◌≢◌, ◌↔◌, Bool, true, cond, not, ◌&&◌, ◌||◌, ℕ, ◌+◌, ◌-◌, ◌≤◌, ◌<◌, eqb, ltb}
 use Rattle.std.proofs.Math.Path.{refl}
 use Rattle.std.proofs.Common.{sym, ap, ◌∙◌, inl, inr, ⊎_elim, le_antisymm, arith}
 use Rattle.std.proofs.Math.Bool.{false}
@@ -16,12 +16,12 @@ use Rattle.rules.specs.Sizes.{task_count, level_count, words_round}
 use Rattle.rules.specs.Table.{Table, task_of, queue_of, queue_count, able_queue, slot_in, first_in, works, is_able, written, no_task, with_task}
 use Rattle.rules.specs.Decides.{Decides, equals, itself, fails, either, both}
 use Rattle.rules.specs.Family.{place_of}
-use Rattle.rules.specs.Ready.{is_set, with_level, without_level, first_level, beside, ready_without, ready_with}
-use Rattle.rules.specs.Levels.{set-with, set-without, set_none, with_word, without_word, words_same, first_set, first_least}
-use Rattle.rules.specs.Move.{leave, join, put, rotate}
+use Rattle.rules.specs.Ready.{is_set, with_level, first_level, beside, ready_without, ready_with}
+use Rattle.rules.proofs.Levels.{set-with, set-without, set_none, with_word, without_word, words_same, first_set, first_least}
+use Rattle.rules.specs.Move.{leave, join, put}
 use Rattle.rules.specs.Sound.{Each, once, Empty, HasAble, SoundReady, SoundQueues}
 use Rattle.rules.specs.declared.Task.{Task}
-use Rattle.laws.specs.queues.Put.{whichever, pick, shifted, leave_inv, put-moves, put-stays, task-put, task-put_same, part-put, work_at}
+use Rattle.laws.specs.queues.Put.{whichever, pick, shifted, leave_inv, put-stays, task-put, task-put_same, part-put, work_at}
 use Rattle.laws.specs.queues.Stands.{able-place, able-stands, able_there, slot-range, slot_there, first_range, first_there, empty_none, none_empty}
 use Rattle.laws.specs.queues.Stands as stands
 use Rattle.laws.specs.queues.Neighbours.{another, equal_beside, place_at}

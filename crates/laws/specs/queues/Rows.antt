@@ -1,7 +1,7 @@
 -- The families stand in a row: each has the state and the queues next to those of the one before it. What follows for states, queues and
 -- numbers, for a row of any length.
-use Rattle.std.specs.Prelude.{◌≡◌, refl, ◌≢◌, Bool, true, false, cond, List, [], ◌∷◌, ℕ, ◌+◌, ◌≤◌, ◌<◌, eqb, length}
-use Rattle.std.proofs.Common.{sym, ap, ◌∙◌, arith, eqb-true, eq-eqb, ne_eqb}
+use Rattle.std.specs.Prelude.{◌≡◌, refl, ◌≢◌, Bool, true, false, List, [], ◌∷◌, ℕ, ◌+◌, ◌≤◌, ◌<◌, eqb, length}
+use Rattle.std.proofs.Common.{arith, eqb-true, eq-eqb, ne_eqb}
 use Rattle.std.proofs.lemmas.Bool.{eqb-false}
 use Rattle.rules.specs.Sizes.{delayed}
 use Rattle.rules.specs.Table.{queue_count, able_queue}
@@ -34,6 +34,7 @@ of_families P x y z v f this = x
 of_families P x y z v f (other this) = y
 of_families P x y z v f (other (other this)) = z
 of_families P x y z v f (other (other (other this))) = v
+of_families P x y z v f (other (other (other (other a)))) = elim a [ ]
 
 -- ---- a row of any length
 
@@ -49,12 +50,14 @@ record Within (s q e : ℕ) (fs : List Family) (f : Family) : Type 0 where
   last : f.first + f.count ≤ e
 
 within : {s q e : ℕ} {fs : List Family} {f : Family} → Laid s q e fs → Among f fs → Within s q e fs f
+within over a = elim a [ ]
 within (more r) this = record { state = omega arith; known = omega arith; first = omega arith; last = laid_end r }
 within (more r) (other a) = let w = within r a in record { state = omega (arith, w.state); known = omega (arith, w.known); first = omega (arith, w.first); last = w.last }
 
 -- Its state says what it says.
 state_of : {s q e : ℕ} {fs : List Family} {f : Family} → Laid s q e fs → Among f fs → (part : Family → ℕ) (none : ℕ) → of_state fs f.state part none ≡ part f
 unfolding of_state
+state_of over a part none = elim a [ ]
 state_of {f} (more r) this part none = rw (eq-eqb f.state f.state refl)
 state_of {f} (more {f = g} r) (other a) part none = rw (ne_eqb f.state g.state (λ e. omega (arith, (within r a).state))) (state_of r a part none)
 
@@ -63,7 +66,7 @@ same_state : {s q e : ℕ} {fs : List Family} {f g : Family} → Laid s q e fs �
 same_state r this this x = refl
 same_state (more r) this (other b) x = absurd (omega (arith, (within r b).state))
 same_state (more r) (other a) this x = absurd (omega (arith, (within r a).state))
-same_state (more r) (other a) (other b) x = same_state r a b x
+same_state {s = s} (more r) (other a) (other b) x = same_state {s = s + 1} r a b x
 
 -- and so are two with one queue, of one number.
 same_queue : {s q e : ℕ} {fs : List Family} {f g : Family} → Laid s q e fs → Among f fs → Among g fs → (m n : ℕ) → m < f.count → n < g.count → waiters_of f m ≡ waiters_of g n
@@ -71,7 +74,7 @@ same_queue : {s q e : ℕ} {fs : List Family} {f g : Family} → Laid s q e fs �
 same_queue r this this m n l k x = (refl, omega arith)
 same_queue (more r) this (other b) m n l k x = absurd (omega (arith, (within r b).first))
 same_queue (more r) (other a) this m n l k x = absurd (omega (arith, (within r a).first))
-same_queue (more r) (other a) (other b) m n l k x = same_queue r a b m n l k x
+same_queue {s = s} (more r) (other a) (other b) m n l k x = same_queue {s = s + 1} r a b m n l k x
 
 -- A state is that of one of the row, or of none.
 pub data Found (fs : List Family) (state : ℕ) : Type 0 where

@@ -1,0 +1,29 @@
+use mathlib.Core.Path.{sym, ◌∙◌}
+use Rattle.rules.specs.Move.{next, put_work}
+use Rattle.table.specs.Image.{view}
+use Rattle.laws.specs.local.Table.{work_of, local_in}
+use Rattle.laws.specs.local.Turn.{cheap_on_none, cheap_on_past, cheap_on_still, cheap_on_turn}
+use Rattle.chain.proofs.local.+lower_on.Goals as goal
+
+pub returns-then-left-eq0 : goal.returns-then-left-eq0
+returns-then-left-eq0 t c =
+    let a = c.args in
+    sym (cheap_on_none 32 next work_of local_in put_work a.left a.i (view a.s.now) c.if-left-eq0.true)
+
+pub returns-then-i-ge32 : goal.returns-then-i-ge32
+returns-then-i-ge32 t c =
+    let a = c.args in
+    sym (cheap_on_past 32 next work_of local_in put_work a.left a.i (view a.s.now) c.if-i-ge32.true)
+
+pub returns-then-get_work-p : goal.returns-then-get_work-p
+returns-then-get_work-p t c =
+    let a = c.args in
+    sym (cheap_on_still 32 next work_of local_in put_work a.left a.i (view a.s.now) (sym c.local_of-p.ensures ∙ sym c.if-get_work-p.true ∙ c.get_work.ensures))
+
+pub returns : goal.returns
+returns t c =
+    let a = c.args in
+    let p = c.local_of-p.ensures in
+    c.lower_on.ensures
+    ∙ rw (c.rework_task.ensures, c.next_of-further.ensures, p)
+    (sym (cheap_on_turn 32 next work_of local_in put_work a.left a.i (view a.s.now) c.if-left-eq0.false c.if-i-ge32.false (λ e. c.if-get_work-p.false (c.get_work.ensures ∙ sym e ∙ sym p))))

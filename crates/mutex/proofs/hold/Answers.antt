@@ -1,0 +1,5 @@
+use Rattle.mutex.proofs.hold.Goals as goal
+
+pub returns : goal.returns
+returns c =
+    cc

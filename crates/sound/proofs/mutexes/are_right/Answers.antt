@@ -1,0 +1,23 @@
+use mathlib.Core.Path.{◌≡◌}
+use native.Mathlib.Omega.{arith}
+use Rattle.rules.specs.Sizes.{mutex_count}
+use Rattle.rules.specs.Table.{mutex_of}
+use Rattle.rules.specs.Sound.{is_sound_mutex}
+use Rattle.table.specs.Image.{view}
+use Rattle.sound.specs.Tests.{each_none, each_and}
+use Rattle.sound.proofs.mutexes.are_right.Goals as goal
+
+pub loop-i-init : goal.loop-i-init
+loop-i-init c =
+    (omega arith, each_none _)
+
+pub loop-i-preserved : goal.loop-i-preserved
+loop-i-preserved c =
+    let l = c.loop-i in
+    let s = c.args.s.now in
+    let e : c.is_right-all.result ≡ is_sound_mutex (mutex_of (view s) l.i) = cc in
+    (omega arith, each_and (λ j. is_sound_mutex (mutex_of (view s) j)) l.i e l.invariant.1)
+
+pub returns : goal.returns
+returns c =
+    let e : c.loop-i.i ≡ mutex_count = omega arith in rw e at c.loop-i.invariant.1

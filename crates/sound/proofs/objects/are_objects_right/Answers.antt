@@ -1,0 +1,5 @@
+use Rattle.sound.proofs.objects.are_objects_right.Goals as goal
+
+pub returns : goal.returns
+returns c =
+    cc

@@ -1,0 +1,10 @@
+use native.Mathlib.Omega.{arith}
+use Rattle.rules.specs.Table.{task_of}
+use Rattle.table.specs.Image.{view}
+use Rattle.sound.specs.Rows.{mark-row}
+use Rattle.sound.proofs.tasks.has_right_mark.Goals as goal
+
+pub returns : goal.returns
+returns c =
+    let a = c.args in
+    cc (mark-row (task_of (view a.s.now) a.i) a.tick (omega arith))

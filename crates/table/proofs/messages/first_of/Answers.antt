@@ -1,0 +1,15 @@
+use mathlib.Core.Path.{sym, ◌∙◌}
+use Rattle.table.specs.Image.{view}
+use Rattle.table.specs.Shape.{view-shaped}
+use Rattle.table.proofs.Laid.{first_none, first_there}
+use Rattle.table.proofs.messages.first_of.Goals as goal
+
+pub returns-then-get_held-eq0 : goal.returns-then-get_held-eq0
+returns-then-get_held-eq0 c =
+    let l = c.args.s.now in
+    first_none (view l) (view-shaped l c.requires.1) c.args.c c.requires.0 (sym c.get_held.ensures ∙ c.if-get_held-eq0.true)
+
+pub returns : goal.returns
+returns c =
+    let l = c.args.s.now in
+    c.get_message_at.ensures ∙ first_there (view l) (view-shaped l c.requires.1) c.args.c c.requires.0 (λ e. c.if-get_held-eq0.false (c.get_held.ensures ∙ e))

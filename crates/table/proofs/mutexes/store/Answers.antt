@@ -1,0 +1,11 @@
+use Rattle.columns.specs.Words.{then}
+use Rattle.table.specs.kinds.Mutex.{made, row}
+use Rattle.table.specs.records.Mutex.{put}
+use borrow.Author.Rules.{rules}
+use Rattle.table.proofs.mutexes.store.Goals as goal
+
+pub returns : goal.returns
+unfolding made
+returns c =
+    put _ _ _ 0 (row _) (search rules) (search rules) (search rules)
+    (then _ _ _ _ _ _ c.put1-3.ensures.0 (then _ _ _ _ _ _ c.put1-2.ensures.0 c.put1.ensures.0))

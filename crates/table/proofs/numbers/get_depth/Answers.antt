@@ -1,0 +1,7 @@
+use mathlib.Core.Path.{◌∙◌}
+use Rattle.table.specs.Numbers.{view-depth}
+use Rattle.table.proofs.numbers.get_depth.Goals as goal
+
+pub returns : goal.returns
+returns c =
+    c.get1.ensures ∙ view-depth c.args.s.now

@@ -1,0 +1,7 @@
+use mathlib.Core.Path.{◌∙◌}
+use Rattle.table.specs.Numbers.{view-ready}
+use Rattle.table.proofs.numbers.get_ready.Goals as goal
+
+pub returns : goal.returns
+returns c =
+    c.get8.ensures ∙ view-ready c.args.s.now

@@ -1,0 +1,7 @@
+use Rattle.why.specs.Tests.{is_placed}
+use Rattle.why.proofs.queues.is_placed.Goals as goal
+
+pub returns : goal.returns
+unfolding is_placed
+returns c =
+    cc

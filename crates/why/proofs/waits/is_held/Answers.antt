@@ -1,0 +1,12 @@
+use native.Mathlib.Omega.{arith}
+use Rattle.table.specs.Shape.{view-shaped}
+use Rattle.why.specs.Awaited.{no_holder}
+use Rattle.why.proofs.waits.is_held.Goals as goal
+
+pub returns-then-o-ge16 : goal.returns-then-o-ge16
+returns-then-o-ge16 c =
+    no_holder (view-shaped c.args.s.now (omega arith)) c.if-o-ge16.true
+
+pub returns : goal.returns
+returns c =
+    cc
