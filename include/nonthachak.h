@@ -4,7 +4,7 @@
  * fresh table, and gets 15. Then the port makes each service call and each tick on it, with interrupts shut: by a function for each service
  * (ntk_mutex_wait and so on) or by ntk_step, which they are made of. A call changes the image in place and says how it was answered and
  * which task is to run; ntk_read shows a field of it.
- * docs/PORT.md tells how to use it, docs/API.md each service, docs/ANSWERS.md each answer, docs/IMAGE.md what each byte means.
+ * docs/PORT-OTHER.md tells how to use it, docs/API.md each service, docs/ANSWERS.md each answer, docs/IMAGE.md what each byte means.
  */
 #ifndef NONTHACHAK_H
 #define NONTHACHAK_H

@@ -1,5 +1,5 @@
 /* A port on the desk: a table in static memory, the calls of a loop, and what runs printed. Instead of a context switch it only
- * remembers who runs. docs/PORT.md tells how to build and run it. */
+ * remembers who runs. docs/PORT-OTHER.md tells how to build and run it. */
 #include <stdio.h>
 
 #include "nonthachak.h"

@@ -32,7 +32,7 @@ function add(relation, call) {
 
 # The calls of a condition that speaks of c: those of each relation that it names, or those that no interrupt may make.
 function add_of(relation, condition,    parts, part, i, from, call) {
-    if (condition == "forInterrupts c ≡ false") {
+    if (condition == "for_interrupts c ≡ false") {
         for (call in byte) if (!interrupts[call]) add(relation, call)
         return
     }
@@ -64,27 +64,27 @@ function add_row(relation, text, result,    count, condition, i, told, call) {
 
 # ---- Sizes: the numbers of names
 
-FILENAME ~ /Sizes/ && /^[a-zA-Z]+ = [0-9]+$/ { number[$1] = $3 }
+FILENAME ~ /Sizes/ && /^[a-z_]+ = [0-9]+$/ { number[$1] = $3 }
 
 # ---- Kinds: the byte of each call, and whether an interrupt may make it. A byte may have a name.
 
-FILENAME ~ /Kinds/ && /^[a-zA-Z]+ = 0x[0-9A-F][0-9A-F]$/ { named_byte[$1] = $3 }
-FILENAME ~ /Kinds/ && /^ .*by(Tasks|All) .*λ n\. / {
+FILENAME ~ /Kinds/ && /^[a-z_]+ = 0x[0-9A-F][0-9A-F]$/ { named_byte[$1] = $3 }
+FILENAME ~ /Kinds/ && /^ .*by_(tasks|all) .*λ n\. / {
     call = $0
     sub(/.*λ n\. /, "", call)
     sub(/[ )].*/, "", call)
     spelled = $0
-    sub(/.*by(Tasks|All) /, "", spelled)
+    sub(/.*by_(tasks|all) /, "", spelled)
     sub(/ .*/, "", spelled)
     if (spelled in named_byte) spelled = named_byte[spelled]
     if (spelled !~ /^0x[0-9A-F][0-9A-F]$/) refuse("a kind without a byte: " spelled)
     byte[call] = substr(spelled, 3)
-    interrupts[call] = /byAll /
+    interrupts[call] = /by_all /
 }
 
 # ---- Numbers: the order, the relations, the rows
 
-FILENAME ~ /Numbers/ && /^paperOrder =/ { ordering = 1; next }
+FILENAME ~ /Numbers/ && /^paper_order =/ { ordering = 1; next }
 ordering {
     count = split($0, word, / *∷ */)
     for (i = 1; i <= count; i++) {
@@ -105,7 +105,7 @@ FILENAME ~ /Numbers/ && /^pub data / {
 /^[^ ]/ { relation = "" }
 FILENAME ~ /Numbers/ && relation != "" && relation != "Thing" && /^  [^-]/ {
     text = $0
-    if (!sub(/^  [a-zA-Z]+ : /, "", text)) refuse("a row without a name")
+    if (!sub(/^  [a-z_]+ : /, "", text)) refuse("a row without a name")
     result = text
     sub(/.* → /, "", result)
     if (index(result, relation " ") != 1) refuse("a row that does not end in " relation)

@@ -1,4 +1,4 @@
-/* claims.c: what docs/PORT.md says of calls that a port makes seldom: a kind that there is not tests the table, and who may be deleted when. */
+/* claims.c: what docs/PORT-OTHER.md says of calls that a port makes seldom: a kind that there is not tests the table, and who may be deleted when. */
 #include <stdio.h>
 #include <string.h>
 

@@ -1,5 +1,5 @@
 /* handlers.c: two interrupt handlers in C, built with general registers alone, as gcc and clang ask for the attribute. The first forgets the xmm
- * registers, which the archive changes; the second is the one of docs/PORT.md. */
+ * registers, which the archive changes; the second is the one of docs/PORT-OTHER.md. */
 #include "handlers.h"
 
 /* clang warns of every call in a handler, of that behind fxsave64 too. */

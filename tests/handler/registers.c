@@ -1,5 +1,5 @@
 /* registers.c: what an interrupt that makes a tick leaves of the registers of whom it interrupts. By a handler that saves the general ones alone,
- * some of xmm0 to xmm15 are lost: prints which, for ntk_step and for ntk_serve, as a row of docs/PORT.md has it. By the two that are right,
+ * some of xmm0 to xmm15 are lost: prints which, for ntk_step and for ntk_serve, as a row of docs/PORT-OTHER.md has it. By the two that are right,
  * none is. */
 #include "handlers.h"
 

@@ -1,11 +1,6 @@
 # The numbers and names of the rules, as the header has them: out of Broken.antt, include/nonthachak.h or docs/IMAGE.md, by what the line looks like.
-# A constructor `taskUsed` is TASK_USED.
-FILENAME ~ /\.antt$/ && match($0, /^  [a-z][A-Za-z]* : .* Broken t 0x[0-9A-F][0-9A-F] [a-z0]$/) {
-    name = $1
-    while (match(name, /[a-z][A-Z]/))
-        name = substr(name, 1, RSTART) "_" tolower(substr(name, RSTART + 1, 1)) substr(name, RSTART + 2)
-    print $(NF - 1), toupper(name)
-}
+# A constructor `task_used` is TASK_USED.
+FILENAME ~ /\.antt$/ && match($0, /^  [a-z][a-z_]* : .* Broken t 0x[0-9A-F][0-9A-F] [a-z0]$/) { print $(NF - 1), toupper($1) }
 FILENAME ~ /\.h$/ && match($0, /NTK_RULE_[A-Z_]+ = 0x[0-9A-F][0-9A-F]/) {
     split(substr($0, RSTART + 9, RLENGTH - 9), part, " = ")
     print part[2], part[1]

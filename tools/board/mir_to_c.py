@@ -1,8 +1,8 @@
-"""mir_to_c.py FILE <MIR: writes the MIR that `rt mir port` prints as one C99 file. What is not known is named, and nothing is written."""
+"""mir_to_c.py FILE <MIR: writes the MIR that tools/board/mir prints as one C99 file. What is not known is named, and nothing is written."""
 import sys
 
 from function import Function
-from mir import Unknown, items, parse, parts
+from mir import Unknown, parse
 from shapes import Types
 
 HEAD = """/* nonthachak.c: the proved kernel as C, for processors that the toolchain does not compile for; docs/BOARDS.md tells how to use it.
@@ -47,18 +47,16 @@ def within(symbol, work):
         return work()
     except Unknown as problem:
         raise Unknown("%s: %s" % (symbol, problem)) from None
-    except (IndexError, TypeError, ValueError) as problem:
+    except (AttributeError, IndexError, KeyError, TypeError, ValueError) as problem:
         raise Unknown("%s: unknown use of a form: %r" % (symbol, problem)) from None
 
 
 def functions_of(program, types):
     """The functions of a program by their symbols."""
     found = {}
-    definitions = [parts(one, "definition", "fn-def/2 fn-def/3") for one in items(parts(program, "program", "program/2")[0])]
-    for symbol, _, *tables in definitions:
-        for table in tables:
-            within(symbol, lambda: types.learn(table))
-    for symbol, item, *_ in definitions:
+    for symbol, item in program:
+        within(symbol, lambda: types.learn(item["types"]))
+    for symbol, item in program:
         if symbol in found:
             raise Unknown("two functions of the name " + symbol)
         found[symbol] = within(symbol, lambda: Function(symbol, item, types))

@@ -1,24 +1,28 @@
 """The types of the MIR as types of C. A type is its C text, so that two types are one where their texts are.
 
-    tyInt 8 .. tyInt 64     uint8_t .. uint64_t
-    tyBool, tyUnit          bool, void
-    tyPtr, tyRef            uint8_t *: memory is bytes
-    tyStruct "&[]"          struct slice of a pointer f0 and a length f1
-    tyArray                 struct arrayW_N of the bytes of N integers of W bits
-    tyNamed, fields         struct of f0, f1 ..
-    tyNamed, variants       union of v0, v1 .., each a struct of the tag f0 and the fields f1 ..
+    Int 8 .. Int 64     uint8_t .. uint64_t
+    Bool, Unit          bool, void
+    Ptr, Ref            uint8_t *: memory is bytes
+    Struct "&[]"        struct slice of a pointer f0 and a length f1
+    Array               struct arrayW_N of the bytes of N integers of W bits
+    Named, Fields       struct of f0, f1 ..
+    Named, Variants     union of v0, v1 .., each a struct of the tag f0 and the fields f1 ..
 """
-from mir import Unknown, items, number, parts, split, unknown
+from mir import Unknown, items, number, parts, record, split, unknown
 
 POINTER, BOOL, UNIT, BYTE, LENGTH, SLICE = "uint8_t *", "bool", "void", "uint8_t", "uint64_t", "struct slice"
 INTEGERS = {"uint8_t": 8, "uint16_t": 16, "uint32_t": 32, "uint64_t": 64}
-PLAIN = {"tyBool": BOOL, "tyUnit": UNIT, "tyPtr": POINTER, "tyRef": POINTER}
+PLAIN = {"Bool": BOOL, "Unit": UNIT, "Ptr": POINTER, "Ref": POINTER}
 
 # Types that the header declares, with the names of their fields.
 OF_HEADER = {
     "port::NtkOutcome": ("struct ntk_outcome", ("answer", "further", "runs")),
     "port::reasons::NtkReason": ("struct ntk_reason", ("rule", "number")),
 }
+
+# What is said of a declared type: its name and shape, and what has to be so of one that is plain data with no parameters.
+DECLARED = "name shape lifetimes bounds type_params const_params type_bounds owns is_cell is_tuple"
+PLAIN_DATA = [0, [], 0, [], [], False, False, False]
 
 
 def c_name(symbol):
@@ -46,20 +50,22 @@ class Types:
 
     def learn(self, table):
         for entry in items(table):
-            symbol, shape = parts(entry, "declaration of a type", "pair/2")
+            symbol, shape, *more = record(entry, "declaration of a type", DECLARED)
+            if more != PLAIN_DATA:
+                unknown("declaration of a type", entry)
             if self.shapes.setdefault(symbol, shape) != shape:
                 raise Unknown("unknown which of two types has the name " + symbol)
 
     def read(self, form):
         """The C type of a type."""
-        name, inside = split(form, "type", "tyInt/1 tyBool/0 tyUnit/0 tyPtr/0 tyRef/3 tyArray/2 tyStruct/2 tyNamed/1")
-        if name == "tyInt":
+        name, inside = split(form, "type", "Int/1 Bool/0 Unit/0 Ptr/0 Ref/3 Array/2 Struct/2 Named/2")
+        if name == "Int":
             return "uint%s_t" % inside[0] if "uint%s_t" % inside[0] in INTEGERS else unknown("type", form)
-        if name == "tyArray":
-            return self.array(self.read(inside[0]), number(parts(inside[1], "length of an array", "lenLit/1")[0]))
-        if name == "tyStruct":
+        if name == "Array":
+            return self.array(self.read(inside[0]), number(parts(inside[1], "length of an array", "Lit/1")[0]))
+        if name == "Struct":
             return self.slice(form, *inside)
-        return self.named(*parts(inside[0], "name of a type", "pair/2")) if name == "tyNamed" else PLAIN[name]
+        return self.named(*inside) if name == "Named" else PLAIN[name]
 
     def define(self, c_type, fields, lines):
         if c_type not in self.fields:
@@ -68,8 +74,8 @@ class Types:
         return c_type
 
     def slice(self, form, name, fields):
-        pointer, length = items(fields, "tcons", "tnil") if name == "&[]" else unknown("type", form)
-        if (self.read(parts(pointer, "pointer of a slice", "tyRef/3")[2]), self.read(length)) != (BYTE, LENGTH):
+        pointer, length = items(fields, 2) if name == "&[]" else unknown("type", form)
+        if (self.read(parts(pointer, "pointer of a slice", "Ref/3")[2]), self.read(length)) != (BYTE, LENGTH):
             unknown("type", form)
         return self.define(SLICE, numbered([POINTER, LENGTH]), ["uint8_t *f0;", "uint64_t f1;"])
 
@@ -80,13 +86,14 @@ class Types:
         self.arrays[c_type] = (element, count)
         return self.define(c_type, None, ["uint8_t at[%d];" % (INTEGERS[element] // 8 * count)])
 
-    def named(self, symbol, lifetimes):
-        if lifetimes != "lnil" or symbol not in self.shapes:
+    def named(self, whole, arguments):
+        symbol, lifetimes = record(whole, "name of a type", "name lifetimes")
+        if lifetimes or arguments or symbol not in self.shapes:
             unknown("type", symbol)
-        kind, (shape,) = split(self.shapes[symbol], "shape of a type", "fields/1 variants/1")
-        if kind == "variants":
-            return self.union("union " + c_name(symbol), items(shape, "ttcons", "ttnil"))
-        types = [self.read(t) for t in items(shape, "tcons", "tnil")]
+        kind, (shape,) = split(self.shapes[symbol], "shape of a type", "Fields/1 Variants/1")
+        if kind == "Variants":
+            return self.union("union " + c_name(symbol), items(shape))
+        types = [self.read(t) for t in items(shape)]
         if symbol in OF_HEADER:
             c_type, names = OF_HEADER[symbol]
             self.fields[c_type] = list(zip(names, types))
@@ -94,6 +101,6 @@ class Types:
         return self.define("struct " + c_name(symbol), numbered(types), ["%s;" % declared(t, n) for n, t in numbered(types)])
 
     def union(self, c_type, variants):
-        fields = [numbered([BYTE] + [self.read(t) for t in items(v, "tcons", "tnil")]) for v in variants]
+        fields = [numbered([BYTE] + [self.read(t) for t in items(v)]) for v in variants]
         lines = ["struct { %s } v%d;" % (" ".join(declared(t, n) + ";" for n, t in v), i) for i, v in enumerate(fields)]
         return self.define(c_type, fields, lines)
