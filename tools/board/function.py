@@ -1,51 +1,70 @@
 """One function of the MIR as one function of C, form by form. Its locals are v0, v1 ..: v0 is the result, then come the parameters."""
-from mir import Unknown, items, name_of, number, parts, record, split, tree, unknown
-from shapes import BOOL, BYTE, INTEGERS, LENGTH, POINTER, SLICE, UNIT, c_name, declared, is_union
+from constants import Constants
+from mir import Unknown, items, name_of, number, record, split, tree, unknown
+from shapes import BOOL, INTEGERS, SLICE, UNIT, c_name, declared
+from values import Values
 
 EXPORTED = "ntk_"   # how the last part of an exported function's name begins; the header declares it
-OPERATORS = {"Add": "+", "WrapAdd": "+", "Sub": "-", "Mul": "*", "Div": "/", "Rem": "%", "And": "&", "Or": "|", "Xor": "^", "Shr": ">>"}
-COMPARISONS = {"Lt": "<", "Le": "<=", "Eq": "==", "Ne": "!="}
 ZEROS = ("0u", "UINT32_C(0)", "UINT64_C(0)")
-OF_BOOLEANS = ("And", "Or", "Xor", "Eq", "Ne")
-RESULT_IS_UNIT = {"Assign": [{"local": 0, "steps": []}, {"Opd": "Unit"}]}
+RESULT = {"local": 0, "steps": []}
+RESULT_IS_UNIT = {"Assign": [RESULT, {"Opd": "Unit"}]}
+IDLE = ["Seq", "Skip", "Return", RESULT_IS_UNIT]
+BLOCKS = ("block", "loop's block")
+STATEMENTS = "Skip/0 Seq/2 Assign/2 Block/1 Loop/1 If/3 Switch/4 Exit/1 Return/0 Call/3 LendStatic/3 Unreachable/0"
 OF_FUNCTION = "params locals body generics types lifetimes outlives"
-NO_GENERICS = {"types": [], "outlives": [], "bounds": [], "method_of": None, "trait_lifetimes": 0, "impls": []}
-NO_ARGUMENTS = {"types": [], "dicts": []}
 
 
-class Function:
-    def __init__(self, symbol, item, types):
-        count, local_list, body, generics, *_ = record(item, "function", OF_FUNCTION)
-        if generics != NO_GENERICS:
-            unknown("part of a function", generics)
-        self.body = tree(body)
-        self.symbol, self.types = symbol, types
-        self.exported = symbol.split("::")[-1].startswith(EXPORTED)
-        self.name = symbol.split("::")[-1] if self.exported else c_name(symbol)
+class Function(Values, Constants):
+    def __init__(self, symbol, item, program, key, arguments=""):
+        """A function or, where `arguments` are named, an instance; `program` finds what it calls."""
+        count, local_list, body, *_ = record(item, "function", OF_FUNCTION)
+        self.words, self.body = body, tree(body)
+        self.symbol, self.program, self.types, self.key, self.arguments = symbol, program, program.types, key, arguments
+        self.exported = self.is_exported(symbol)
+        self.name = symbol.split("::")[-1] if self.exported else program.name(c_name(symbol), arguments)
         self.forms = [record(local, "local", "ty home") for local in items(local_list)]
-        for _, home in self.forms:
-            split(home, "home of a local", "ValueLocal/0 MemorySlot/0")
-        self.locals = [types.read(form) for form, _ in self.forms]
+        self.slots = [split(home, "home of a local", "ValueLocal/0 MemorySlot/0")[0] == "MemorySlot" for _, home in self.forms]
+        self.locals = [self.types.read(form) for form, _ in self.forms]
         self.parameters = range(1, 1 + number(count))
-        if any(self.locals[i] == UNIT for i in self.parameters):
-            raise Unknown("unknown parameter: a unit")
-        self.lines, self.around = [], []    # the lines of the body, and the ifs, loops and switches around the next one
-        self.read, self.callees, self.restarts = {0}, [], False
+        if any(self.slots[i] for i in self.parameters):
+            raise Unknown("unknown home of a parameter")
+        self.given = [i for i in self.parameters if self.locals[i] != UNIT]     # those that take room
+        self.lines, self.around = [], []    # the lines of the body; the ifs, switches, blocks and loops around the next one, each with its label
+        self.statics = []                   # the constants that it lends
+        self.reads = set()                  # the locals that the next line reads
+        self.callees, self.restarts, self.labels = [], False, 0
+
+    @staticmethod
+    def is_exported(symbol):
+        return symbol.split("::")[-1].startswith(EXPORTED)
 
     # ---- the whole
 
-    def translate(self, functions):
-        """The lines of C. `functions` has all functions by their symbols."""
-        self.functions = functions
+    def translate(self):
+        """The lines of C."""
         self.statement(self.body)
+        read = self.read()
         slices = ["    struct slice v%d = { %sp%d, n%d };" % (i, "(uint8_t *)" * self.is_const(i), i, i)
-                  for i in self.parameters if self.is_lent(i)]
-        unread = ["    (void)v%d;" % i for i in self.parameters if i not in self.read]
-        own = ["    %s;" % declared(self.locals[i], "v%d" % i)
-               for i in sorted(self.read) if i not in self.parameters and self.locals[i] != UNIT]
-        body = [line if local in self.read else unread_line for line, local, unread_line in self.lines]
-        return (["/* %s */" % self.symbol, self.signature(), "{"] + slices + own + unread + ["start:"] * self.restarts +
-                [line for line in body if line] + ["}"])
+                  for i in self.given if self.is_lent(i)]
+        unread = ["    (void)v%d;" % i for i in self.given if i not in read]
+        own = ["    %s;" % self.own(i) for i in sorted(read) if i not in self.parameters and self.locals[i] != UNIT]
+        body = [line if local in read else unread_line for line, local, unread_line, _ in self.lines]
+        return (["/* %s%s */" % (self.symbol, self.arguments), self.signature(), "{"] + ["    " + one for one in self.statics] + slices + own + unread +
+                ["start:"] * self.restarts + [line for line in body if line] + ["}"])
+
+    def read(self):
+        """The locals that are read by a line which is not left out."""
+        read, more = set(), {0}
+        while not more <= read:
+            read |= more
+            more = set().union(*(reads for _, local, unread_line, reads in self.lines if local in read or unread_line))
+        return read
+
+    def own(self, i):
+        """The declaration of a local that is no parameter. A number or a bool that has an address is its bytes."""
+        if self.local(i).in_bytes:
+            return "uint8_t v%d[%d]" % (i, self.types.size(self.locals[i]))
+        return declared(self.locals[i], "v%d" % i)
 
     def is_lent(self, i):
         """A slice that C lends to an exported function is two parameters there."""
@@ -53,31 +72,36 @@ class Function:
 
     def is_const(self, i):
         _, (pointer, _) = self.forms[i][0]["Struct"]
-        return pointer["Ref"][1] == "Imm"
+        _, lent, of = pointer["Ref"]
+        return lent == "Imm" if of == {"Int": 8} else unknown("slice lent by C, of", of)
 
     def signature(self):
         given = []
-        for i in self.parameters:
+        for i in self.given:
             if self.is_lent(i):
                 given += ["%suint8_t *p%d" % ("const " * self.is_const(i), i), "size_t n%d" % i]
             else:
                 given += [declared(self.locals[i], "v%d" % i)]
-        return "%s%s(%s)" % ("" if self.exported else "static ", declared(self.locals[0], self.name), ", ".join(given) or "void")
+        kind = "" if self.exported else "static inline " if self.arguments else "static "
+        return "%s%s(%s)" % (kind, declared(self.locals[0], self.name), ", ".join(given) or "void")
 
     def say(self, text, local=0, unread=""):
         """A line; where it sets a local that nothing reads, what stands in its place."""
-        indent = "    " * (1 + len(self.around))
-        self.lines.append((indent + text, local, unread and indent + unread))
+        indent = "    " * (1 + sum(what not in BLOCKS for what, _ in self.around))
+        self.lines.append((indent + text, local, unread and indent + unread, self.reads))
+        self.reads = set()
 
     def within(self, what, body):
-        self.around.append(what)
+        """The statements within an if, a switch, a block or a loop. Answers with the label that an exit jumps to, if one does."""
+        self.around.append([what, None])
         self.statement(body)
-        self.around.pop()
+        return self.around.pop()[1]
 
     # ---- statements
 
     def statement(self, form):
-        name, inside = split(form, "statement", "Skip/0 Seq/2 Assign/2 Block/1 If/3 Switch/4 Exit/1 Return/0 Call/3")
+        self.reads = set()
+        name, inside = split(form, "statement", STATEMENTS)
         if name == "Seq" and self.calls_itself_last(*inside):
             self.restart(items(inside[0]["Call"][1]))
         elif name != "Skip":
@@ -90,19 +114,24 @@ class Function:
     def on_Return(self):
         self.say("return;" if self.locals[0] == UNIT else "return v0;")
 
-    def on_Assign(self, place, value):
-        to, c_type, local = self.place_to_set(place)
-        text = self.rvalue(value, c_type)
-        if self.is_zero(value, c_type):
-            for (member, of) in self.types.fields[c_type]:
-                self.say("%s.%s = 0;" % (to, member), local)
-        elif c_type != UNIT:
-            self.say("%s = %s;" % (to, text), local)
+    def on_Unreachable(self):
+        self.say("for (;;)")
+        self.say("    ;   /* it is proved that nothing comes here */")
 
-    def is_zero(self, value, c_type):
+    def on_Assign(self, place, value):
+        to, local = self.place_to_set(place)
+        text = self.rvalue(value, to.c_type)
+        if self.is_zero(value, to):
+            for member, _ in self.types.fields[to.c_type]:
+                self.say("%s.%s = 0;" % (to.text, member), local)
+        elif to.c_type != UNIT:
+            self.say(self.setting(to, text), local)
+
+    def is_zero(self, value, to):
         """A struct of zeros alone. It is set field by field: where it has 32 bytes, as a task has, gcc calls memset for it otherwise."""
-        fields = self.types.fields.get(c_type)
-        return bool(fields and not is_union(c_type) and c_type not in self.types.arrays and name_of(value) == "Aggregate"
+        fields = self.types.fields_of(to.c_type)
+        return bool(fields and name_of(value) == "Aggregate" and not to.text.startswith("*")
+                    and not any(self.types.has_address(to.c_type, *field) for field in fields)
                     and all(self.operand(given, t) in ZEROS for given, (_, t) in zip(items(value["Aggregate"]), fields)))
 
     def on_If(self, on, yes, no):
@@ -130,168 +159,90 @@ class Function:
         self.say("}")
 
     def on_Block(self, body):
-        """A loop stands in a block of its own: what leaves the block leaves the loop."""
+        """What leaves a block goes on behind it."""
+        label = self.within("loop's block" if name_of(body) == "Loop" else "block", body)
+        if label:
+            self.say(label + ":;")
+
+    def on_Loop(self, body):
+        """What leaves a loop begins it again, as its end does."""
         self.say("for (;;) {")
-        self.within("loop", parts(body, "block, of no loop", "Loop/1")[0])
+        label = self.within("loop", body)
+        if label:
+            self.say("    %s:;" % label)
         self.say("}")
 
     def on_Exit(self, count):
-        """Exit 1 leaves the inmost loop and its block. A break of C leaves the inmost loop or switch: that has to be this loop."""
-        around = [what for what in self.around if what != "if"]
-        if count != 1 or around[-1:] != ["loop"]:
-            unknown("exit within %s" % (" ".join(around) or "no loop"), {"Exit": count})
-        self.say("break;")
+        """Exit 0 leaves the inmost block or loop, Exit 1 the one around it. Where a break or a continue of C does just that, it is one."""
+        ways = [i for i, (what, _) in enumerate(self.around) if what in BLOCKS + ("loop",)]
+        if number(count) >= len(ways):
+            unknown("exit within %s" % (" ".join(what for what, _ in self.around if what in ("loop", "switch")) or "no loop"), {"Exit": count})
+        to = ways[-1 - count]
+        what, *inside = [what for what, _ in self.around[to:] if what not in ("if", "block")] or ["block"]
+        if (what, inside) == ("loop's block", ["loop"]):
+            self.say("break;")
+        elif what == "loop" and "loop" not in inside:
+            self.say("continue;")
+        else:
+            self.say("goto %s;" % self.label(to))
+
+    def label(self, place):
+        """The label of something around, which is put there."""
+        what, label = self.around[place]
+        if label is None:
+            self.labels += 1
+            label = self.around[place][1] = ("next%d" if what == "loop" else "left%d") % self.labels
+        return label
 
     def on_Call(self, whom, arguments, place):
-        symbol, arguments_of_types = parts(whom, "callee", "Fn/2")
-        if arguments_of_types != NO_ARGUMENTS:
-            unknown("callee", whom)
-        callee = self.functions.get(symbol)
-        if callee is None or callee.exported:
-            unknown("callee", symbol)
-        self.callees.append(symbol)
-        to, c_type, local = self.place_to_set(place)
-        if callee.locals[0] != c_type:
-            unknown("call for a " + c_type, symbol)
-        call = "%s(%s);" % (callee.name, ", ".join(self.arguments(callee, items(arguments))))
-        if c_type == UNIT:
-            self.say(call)
+        key = self.program.callee(whom)
+        callee = self.program.instances[key]
+        if callee.exported:
+            unknown("callee", callee.symbol)
+        to, local = self.place_to_set(place)
+        if callee.locals[0] != to.c_type:
+            unknown("call for a " + to.c_type, callee.symbol)
+        if callee.is_idle():
+            return
+        self.callees.append(key)
+        call = "%s(%s)" % (callee.name, ", ".join(self.arguments_for(callee, items(arguments))))
+        if to.c_type == UNIT:
+            self.say(call + ";")
         else:
-            self.say("%s = %s" % (to, call), local, "(void)" + call)
+            self.say(self.setting(to, call), local, "(void)" + call + ";")
 
-    def arguments(self, callee, arguments):
+    def is_idle(self):
+        """An instance that does nothing, as the drop of a type that owns nothing: no call of it is made."""
+        return bool(self.arguments) and all(word in IDLE for word in self.words)
+
+    def arguments_for(self, callee, arguments):
         if len(arguments) != len(callee.parameters):
             unknown("number of arguments for", callee.symbol)
-        return [self.operand(given, callee.locals[i]) for i, given in zip(callee.parameters, arguments)]
+        texts = [(i, self.operand(given, callee.locals[i])) for i, given in zip(callee.parameters, arguments)]
+        return [text for i, text in texts if i in callee.given]
 
     def calls_itself_last(self, first, then):
         """A call of this function itself behind which it returns. C does not bound the stack there, so it becomes a jump to the start. No
-        address of a local may be lent to it: only arrays have addresses."""
-        return (name_of(first) == "Call" and first["Call"][0] == {"Fn": [self.symbol, NO_ARGUMENTS]} and self.locals[0] == UNIT
-                and then in ("Return", {"Seq": [RESULT_IS_UNIT, "Return"]}) and not any(t in self.types.arrays for t in self.locals))
+        address of a local may be lent to it."""
+        if name_of(first) != "Call" or self.program.callee(first["Call"][0]) != self.key:
+            return False
+        returns = ["Return"] if first["Call"][2] == RESULT else []
+        if self.locals[0] == UNIT:
+            returns = ["Return", {"Seq": [RESULT_IS_UNIT, "Return"]}]
+        return then in returns and not any(self.slots) and not any(t in self.types.arrays for t in self.locals)
 
     def restart(self, arguments):
         """All arguments are read before a parameter is set."""
         self.restarts = True
         self.say("{")
-        for i, text in zip(self.parameters, self.arguments(self, arguments)):
+        for i, text in zip(self.given, self.arguments_for(self, arguments)):
             self.say("    %s = %s;" % (declared(self.locals[i], "a%d" % i), text))
-        for i in self.parameters:
+        for i in self.given:
             self.say("    v%d = a%d;" % (i, i), i)
         self.say("    goto start;")
         self.say("}")
 
-    # ---- places and operands: their C text and their type
-
-    def place(self, form):
-        """A place that is read."""
-        root, steps = record(form, "place", "local steps")
-        self.read.add(number(root))
-        text, c_type, fields = "v%d" % root, self.locals[root], self.types.fields.get(self.locals[root])
-        for step in items(steps):
-            name, (what,) = split(step, "step of a place", "Deref/1 Field/1 Variant/1")
-            if name == "Deref" and c_type == POINTER:
-                text, c_type, fields = self.pointed(text, self.types.read(what)) + (None,)
-            elif name == "Variant" and is_union(c_type) and number(what) < len(fields):
-                text, c_type, fields = "%s.v%s" % (text, what), "variant", fields[number(what)]
-            elif name == "Field" and fields and not is_union(c_type) and number(what) < len(fields):
-                member, c_type = fields[number(what)]
-                text, fields = "%s.%s" % (text, member), self.types.fields.get(c_type)
-            else:
-                unknown("step at a " + c_type, step)
-        return text, c_type
-
-    def pointed(self, pointer, c_type):
-        if c_type == BYTE:
-            return "*" + pointer, c_type
-        return "load32(%s)" % pointer if c_type == "uint32_t" else unknown("memory of a", c_type), c_type
-
     def place_to_set(self, form):
         """A place that is set; and the local that is set whole, if it is one: if nothing reads it, the line is left out."""
         root, steps = record(form, "place", "local steps")
-        if not items(steps):
-            return "v%d" % number(root), self.locals[root], root
-        text, c_type = self.place(form)
-        return text if not text.startswith("load") else unknown("place to set", form), c_type, 0
-
-    def typed(self, form):
-        """An operand."""
-        name, inside = split(form, "operand", "Copy/1 Int/1 True/0 False/0 Unit/0")
-        if name == "Copy":
-            return self.place(inside[0])
-        if name != "Int":
-            return name.lower(), UNIT if name == "Unit" else BOOL
-        width, value = map(number, record(inside[0], "number", "width value"))
-        c_type = "uint%d_t" % width
-        if c_type not in INTEGERS or value >= 2 ** width:
-            unknown("constant", form)
-        return "%du" % value if width < 32 else "UINT%d_C(%d)" % (width, value), c_type
-
-    def operand(self, form, c_type):
-        """The text of an operand that has to be of this type."""
-        text, found = self.typed(form)
-        return text if found == c_type else unknown("%s for a %s" % (found, c_type), form)
-
-    # ---- what is assigned to a place of a type: its C text
-
-    def rvalue(self, form, c_type):
-        name, inside = split(form, "rvalue", "Opd/1 Op1/2 Op2/3 AddrOf/1 Aggregate/1 Repeat/2")
-        if name == "Opd":
-            return self.operand(inside[0], c_type)
-        return getattr(self, "rvalue_" + name)(c_type, *inside)
-
-    def rvalue_Op1(self, c_type, operation, form):
-        name, inside = split(operation, "operation", "Not/0 Cast/3 LeadingZeros/0")
-        text, found = self.typed(form)
-        if name == "Not" and found == c_type == BOOL:
-            return "!" + text
-        if name == "LeadingZeros" and (found, c_type) == ("uint64_t", "uint32_t"):
-            return "leading_zeros64(%s)" % text
-        if name != "Cast" or inside[:2] != ["Unsigned", "Unsigned"] or INTEGERS.get(c_type) != number(inside[2]) or found not in [*INTEGERS, BOOL]:
-            unknown("operation from a %s to a %s" % (found, c_type), operation)
-        return "(%s)%s" % (c_type, text)
-
-    def rvalue_Op2(self, c_type, operation, left, right):
-        name, sign = split(operation, "operation", "Add/1 WrapAdd/0 Sub/1 Mul/1 Div/1 Rem/1 Shr/1 Lt/1 Le/1 Eq/0 Ne/0 And/0 Or/0 Xor/0 Offset/0")
-        if name == "Offset":
-            return "%s + %s" % (self.operand(left, POINTER), self.operand(right, LENGTH)) if c_type == POINTER else unknown("offset for a", c_type)
-        x, of = self.typed(left)
-        y = self.operand(right, of)
-        if sign not in ([], ["Unsigned"]) or of not in INTEGERS and not (of == BOOL and name in OF_BOOLEANS):
-            unknown("operation on a " + of, operation)
-        if c_type != (BOOL if name in COMPARISONS else of):
-            unknown("operation for a " + c_type, operation)
-        if name in COMPARISONS:
-            return "%s %s %s" % (x, COMPARISONS[name], y)
-        if INTEGERS.get(of, 32) < 32:   # by itself C would compute with a signed int
-            return "(%s)((uint32_t)%s %s %s)" % (of, x, OPERATORS[name], y)
-        return "%s %s %s" % (x, OPERATORS[name], y)
-
-    def rvalue_AddrOf(self, c_type, form):
-        text, found = self.place(form)
-        if c_type == POINTER and found in self.types.arrays:
-            return text + ".at"
-        return text[1:] if c_type == POINTER and text.startswith("*") else unknown("address of a", found)
-
-    def rvalue_Repeat(self, c_type, value, count):
-        return self.array(c_type, [value] * number(parts(count, "length of an array", "Lit/1")[0]))
-
-    def rvalue_Aggregate(self, c_type, values):
-        items(values)
-        if c_type in self.types.arrays:
-            return self.array(c_type, values)
-        fields, shape = self.types.fields.get(c_type), "(%s){ %s }"
-        if is_union(c_type) and values:
-            tag = number(record(parts(values[0], "tag", "Int/1")[0], "tag", "width value")[1])
-            if tag >= len(fields):
-                unknown("variant of a " + c_type, values[0])
-            fields, shape = fields[tag], "(%%s){ .v%d = { %%s } }" % tag
-        if not fields or len(fields) != len(values):
-            unknown("aggregate for a", c_type)
-        return shape % (c_type, ", ".join(self.operand(value, t) for value, (_, t) in zip(values, fields)))
-
-    def array(self, c_type, values):
-        element, count = self.types.arrays.get(c_type) or unknown("array for a", c_type)
-        if len(values) != count:
-            unknown("number of values for", c_type)
-        return "(%s){ { %s } }" % (c_type, ", ".join("BYTES%d(%s)" % (INTEGERS[element], self.operand(value, element)) for value in values))
+        return (self.place(form), 0) if items(steps) else (self.local(number(root)), root)

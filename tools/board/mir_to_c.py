@@ -1,7 +1,7 @@
 """mir_to_c.py FILE <MIR: writes the MIR that tools/board/mir prints as one C99 file. What is not known is named, and nothing is written."""
 import sys
 
-from function import Function
+from instances import Program, within
 from mir import Unknown, parse
 from shapes import Types
 
@@ -15,15 +15,57 @@ HEAD = """/* nonthachak.c: the proved kernel as C, for processors that the toolc
 /* An array is its bytes, the least significant first, on every processor. */
 #define BYTES8(x) (x)
 #define BYTES32(x) (uint8_t)(x), (uint8_t)((x) >> 8), (uint8_t)((x) >> 16), (uint8_t)((x) >> 24)
+"""
 
+# What is written only where something uses it (a compiler would warn), after its name. Leading zeros are counted by halves, since a board's registers
+# have 32 bits.
+HELPERS = {
+    "BYTES16": """#define BYTES16(x) (uint8_t)(x), (uint8_t)((x) >> 8)
+""",
+    "BYTES64": """#define BYTES64(x) BYTES32(x), BYTES32((x) >> 32)
+""",
+    "load16": """
+static inline uint16_t load16(const uint8_t *p)
+{
+    return (uint16_t)(p[0] | (uint32_t)p[1] << 8);
+}
+""",
+    "load32": """
 static inline uint32_t load32(const uint8_t *p)
 {
     return p[0] | (uint32_t)p[1] << 8 | (uint32_t)p[2] << 16 | (uint32_t)p[3] << 24;
 }
-"""
-
-# Only where a function calls it: a compiler would warn. By halves, since a board's registers have 32 bits.
-LEADING_ZEROS = """
+""",
+    "load64": """
+static inline uint64_t load64(const uint8_t *p)
+{
+    return load32(p) | (uint64_t)load32(p + 4) << 32;
+}
+""",
+    "store16": """
+static inline void store16(uint8_t *p, uint16_t x)
+{
+    p[0] = (uint8_t)x;
+    p[1] = (uint8_t)(x >> 8);
+}
+""",
+    "store32": """
+static inline void store32(uint8_t *p, uint32_t x)
+{
+    p[0] = (uint8_t)x;
+    p[1] = (uint8_t)(x >> 8);
+    p[2] = (uint8_t)(x >> 16);
+    p[3] = (uint8_t)(x >> 24);
+}
+""",
+    "store64": """
+static inline void store64(uint8_t *p, uint64_t x)
+{
+    store32(p, (uint32_t)x);
+    store32(p + 4, (uint32_t)(x >> 32));
+}
+""",
+    "leading_zeros64": """
 /* How many zeros stand before the first 1; 64 where there is none. */
 static inline uint32_t leading_zeros64(uint64_t x)
 {
@@ -38,56 +80,59 @@ static inline uint32_t leading_zeros64(uint64_t x)
         }
     return zeros;
 }
-"""
+""",
+}
+NESTED = 8  # so often may a function be called within itself, each time with other arguments
 
 
-def within(symbol, work):
-    """Does some work on a function: what goes wrong names it."""
-    try:
-        return work()
-    except Unknown as problem:
-        raise Unknown("%s: %s" % (symbol, problem)) from None
-    except (AttributeError, IndexError, KeyError, TypeError, ValueError) as problem:
-        raise Unknown("%s: unknown use of a form: %r" % (symbol, problem)) from None
+def helpers(lines):
+    """The helpers that these lines use, and those that they use themselves."""
+    wanted, text = [], "\n".join(lines)
+    for name in reversed(HELPERS):      # a helper uses those before it
+        if name + "(" in text:
+            wanted.append(HELPERS[name])
+            text += HELPERS[name]
+    return "".join(reversed(wanted))
 
 
-def functions_of(program, types):
-    """The functions of a program by their symbols."""
-    found = {}
-    for symbol, item in program:
-        within(symbol, lambda: types.learn(item["types"]))
-    for symbol, item in program:
-        if symbol in found:
-            raise Unknown("two functions of the name " + symbol)
-        found[symbol] = within(symbol, lambda: Function(symbol, item, types))
-    return found
-
-
-def translated(symbol, functions, done, callers):
+def translated(key, program, done, callers):
     """Puts the C of a function into `done`, behind all that it calls."""
-    if symbol in callers:
-        raise Unknown("recursion, which has no bound of the stack: " + " ".join([*callers, symbol]))
-    if symbol in done:
+    if key in callers:
+        raise Unknown("recursion, which has no bound of the stack: " + " ".join(symbol for symbol, *_ in [*callers, key]))
+    if sum(symbol == key[0] for symbol, *_ in callers) >= NESTED:
+        raise Unknown("a function within itself with ever other arguments: " + key[0])
+    if key in done:
         return
-    one = functions[symbol]
-    lines = within(symbol, lambda: one.translate(functions))
+    one = program.instances[key]
+    lines = within(key[0], one.translate)
     for callee in one.callees:
-        translated(callee, functions, done, [*callers, symbol])
-    done[symbol] = lines
+        translated(callee, program, done, [*callers, key])
+    done[key] = lines
+
+
+def passed(definitions, keys, addressed):
+    """One pass: the program and, by the keys of the instances that C's calls reach, their C. These keys are known to be among them, and these fields
+    of structs to have an address."""
+    program, done = Program(definitions, Types(addressed)), {}
+    for key in keys:
+        program.know(key)
+    for key in program.exported():
+        translated(key, program, done, [])
+    return program, done
 
 
 def translate(text):
-    types, done = Types(), {}
-    functions = functions_of(parse(text), types)
-    for symbol, one in functions.items():
-        if one.exported:
-            translated(symbol, functions, done, [])
-    names = [functions[symbol].name for symbol in done]
+    """A pass finds what the next one has to know before it names a type or an instance, so that their order is that of the keys."""
+    definitions, found, known = parse(text), ([], set()), None
+    while found != known:
+        known = found
+        program, done = passed(definitions, *known)
+        found = (sorted(done), program.types.addressed)
+    names = [program.instances[key].name for key in done]
     if len(set(names)) != len(names):
         raise Unknown("two functions that have one name in C")
-    counts = any("leading_zeros64(" in line for lines in done.values() for line in lines)
-    head = HEAD + LEADING_ZEROS if counts else HEAD
-    return "\n".join([head, *types.lines] + ["\n" + "\n".join(lines) for lines in done.values()]) + "\n"
+    lines = [line for one in done.values() for line in one]
+    return "\n".join([HEAD + helpers(lines), *program.types.lines] + ["\n" + "\n".join(one) for one in done.values()]) + "\n"
 
 
 if __name__ == "__main__":

@@ -16,8 +16,8 @@ pub by_call : {c d : Call} (t : Table) {r : ℕ} {l m : List ℕ} → c ≡ d �
 by_call t {r} {l} {m} e s = subst (λ (x : Call). Told (answer_to x t) (effect x t) (told_by x t) r l m) (sym e) s
 
 -- also where it tells nothing further
-pub plain-call : {c d : Call} (t : Table) {r : ℕ} {l m : List ℕ} → c ≡ d → r < 256 → told_by d t ≡ 0 → Served (answer_to d t) (effect d t) r l m → Told (answer_to c t) (effect c t) (told_by c t) r l m
-plain-call t e h z s = by_call t e (tells-nothing h z s)
+pub plain-call : {c d : Call} (t : Table) {r a : ℕ} {l m : List ℕ} → c ≡ d → (r ≡ a) × (r < 256) → told_by d t ≡ 0 → Served (answer_to d t) (effect d t) a l m → Told (answer_to c t) (effect c t) (told_by c t) r l m
+plain-call t e h z s = by_call t e (tells-nothing h.1 z (rw h.0 s))
 
 -- the test of who made the call, from what was found of the call
 module _ (c : Call) (interrupt may : Bool) (t : Table) (is : may ≡ for_interrupts c) where

@@ -2,7 +2,7 @@
 use Rattle.std.specs.Prelude.{◌≡◌, refl, Bool, true, false, cond, ◌&&◌, ℕ, zero, suc, ◌≤◌, ◌<◌, min, eqb, ltb}
 use Rattle.std.proofs.Common.{sym, ◌∙◌, not-suc-le-zero, arith, ext_get_or, eqb-true, ltb-true, ltb-false}
 use Rattle.std.proofs.Math.Path.{ap}
-use Rattle.std.proofs.lemmas.Bool.{false≢true}
+use Rattle.std.proofs.lemmas.Bool.{and_parts}
 use mathlib.Core.List.{List, [], ◌∷◌}
 use Rattle.std.proofs.Math.ListN.{length, get_or}
 use Rattle.rules.specs.Sizes.{task_count}
@@ -28,15 +28,11 @@ unfoldable pub is_blank : List ℕ → Bool
 is_blank [] = true
 is_blank (x ∷ xs) = eqb x not_given && is_blank xs
 
-both : (a b : Bool) → (a && b) ≡ true → (a ≡ true) × (b ≡ true)
-both true b e = (refl, e)
-both false b e = absurd (false≢true e)
-
 blank_at : (l : List ℕ) (i : ℕ) → is_blank l ≡ true → i < length l → get_or l i 0 ≡ not_given
 unfolding is_blank
 blank_at [] i e h = absurd (not-suc-le-zero h)
-blank_at (x ∷ xs) zero e h = eqb-true x not_given (both (eqb x not_given) (is_blank xs) e).0
-blank_at (x ∷ xs) (suc i) e h = blank_at xs i (both (eqb x not_given) (is_blank xs) e).1 (omega arith)
+blank_at (x ∷ xs) zero e h = eqb-true x not_given (and_parts (eqb x not_given) (is_blank xs) e).0
+blank_at (x ∷ xs) (suc i) e h = blank_at xs i (and_parts (eqb x not_given) (is_blank xs) e).1 (omega arith)
 
 pub none_given : (l : List ℕ) → length l ≡ task_count → is_blank l ≡ true → NoneGiven l
 none_given l z e = record { size = z; at = λ i h. blank_at l i e (omega arith) }

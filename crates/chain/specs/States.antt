@@ -2,8 +2,8 @@
 use Rattle.std.specs.Prelude.{◌≡◌, List, ℕ, zero, suc, ◌+◌, ◌≤◌, ◌<◌}
 use Rattle.std.proofs.Common.{◌∙◌, add_assoc, arith}
 use Rattle.std.proofs.Math.Decide.{ℕ_discrete}
-use Rattle.std.specs.Int.Bits.{bit_or, or_zero_r, or_add_and}
-use Rattle.std.proofs.lemmas.Nat.{or_comm, and_le_r}
+use Rattle.std.specs.Int.Bits.{bit_or, or_zero_r}
+use Rattle.std.proofs.lemmas.Nat.{le_or_l, le_or_r}
 use Rattle.rules.specs.Sizes.{task_count, waits_mutex}
 use Rattle.rules.specs.Table.{Table, task_of, holder_of}
 use Rattle.rules.specs.Move.{next, base_of}
@@ -21,12 +21,6 @@ pub states_eight : (t : Table) (a : ℕ) → let s : ℕ → ℕ = λ i. (task_o
 unfolding states_from
 states_eight t a = simp (add_assoc, or_zero_r)
 
-or_le_l : (x y : ℕ) → x ≤ bit_or x y
-or_le_l x y = omega (arith, or_add_and x y, and_le_r x y)
-
-or_le_r : (x y : ℕ) → y ≤ bit_or x y
-or_le_r x y = omega (arith, or_comm x y, or_le_l y x)
-
 -- None of them is greater than all together.
 state-below : (n a i : ℕ) (t : Table) → a ≤ i → i < a + n → (task_of t i).state ≤ states_from n a t
 unfolding states_from
@@ -34,8 +28,8 @@ state-below zero a i t g h = absurd (omega arith)
 state-below (suc n) a i t g h = go (ℕ_discrete i a) (λ (m : a + 1 ≤ i). state-below n (a + 1) i t m (omega arith))
   where
     go : Dec (i ≡ a) → (a + 1 ≤ i → (task_of t i).state ≤ states_from n (a + 1) t) → (task_of t i).state ≤ bit_or (task_of t a).state (states_from n (a + 1) t)
-    go (yes y) f = rw y (or_le_l (task_of t a).state (states_from n (a + 1) t))
-    go (no y) f = omega (arith, f (omega arith), or_le_r (task_of t a).state (states_from n (a + 1) t))
+    go (yes y) f = rw y (le_or_l (task_of t a).state (states_from n (a + 1) t))
+    go (no y) f = omega (arith, f (omega arith), le_or_r (task_of t a).state (states_from n (a + 1) t))
 
 -- Where all together are below the state of a wait for a mutex, none of the tasks has a turn to take.
 pub states_past : (t : Table) {l : List ℕ} (n a : ℕ) → states_from n a t < waits_mutex

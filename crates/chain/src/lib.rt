@@ -2,58 +2,62 @@
 #![tactic(auto)]
 
 ghost use Rattle.std.specs.Prelude.{◌≡◌, ◌+◌, ◌≤◌, ◌<◌};
+ghost use Rattle.rules.specs.Sizes.{task_count};
 ghost use Rattle.rules.specs.Table.{holder_of};
 ghost use Rattle.rules.specs.Move.{next, base_of, fresh_in};
-ghost use Rattle.table.specs.Image.{Image, view};
+ghost use Rattle.table.specs.Image.{view};
 ghost use Rattle.chain.specs.Carry.{HadTurns};
 ghost use Rattle.chain.specs.Given.{NoneGiven, given_to_all, Given};
 ghost use Rattle.chain.specs.States.{states_from};
 
-use table::{mutexes, tasks};
+use table::layout::Image;
+use table::{layout, mutexes, tasks};
 
 pub mod local;
 pub mod rings;
 pub mod walk;
 
-// The task that holds mutex m; 32, which is no task, for none.
-pub fn holder_of(s: &[u8], m: usize) -> usize
-    requires { Image s.now }
+// What each task is given by those who wait for it: a priority, or 255, which is none.
+pub type Priorities = [u8; layout::TASKS];
+
+// The task that holds mutex m; 32, which is no task, for none. No Option: an image that is not sound may name any number there, and a
+// chain ends at each that is no task's, as the rules' `holder_of` and `next` have it.
+pub fn holder_of(s: &Image, m: usize) -> usize
     ensures { result ≡ holder_of (view s.now) m }
 {
-    if 16 <= m {
-        return 32;
+    if layout::MUTEXES <= m {
+        return layout::TASKS;
     }
     let v = mutexes::get_holder(s, m);
     if v == 0 {
-        return 32;
+        return layout::TASKS;
     }
     v as usize - 1
 }
 
 // The holder of the mutex for which task j waits, or no task.
-pub fn next_of(s: &[u8], j: usize) -> usize
-    requires { Image s.now }
+pub fn next_of(s: &Image, j: usize) -> usize
     ensures { result ≡ next (view s.now) j }
 {
-    if 32 <= j {
-        return 32;
+    if layout::TASKS <= j {
+        return layout::TASKS;
     }
-    if tasks::get_state(s, j) == 3 {
+    if tasks::get_state(s, j) == tasks::WAITS_MUTEX {
         let m = tasks::get_object(s, j);
         return holder_of(s, m as usize);
     }
-    32
+    layout::TASKS
 }
 
 // The base priority of task i goes along its chain, to each task whose own is greater and that was given a greater one. Where one has
 // none greater, those behind it have none either, or get one no greater in their turn; so a ring ends too.
-fn carry(s: &[u8], given: &mut [u8], i: usize)
-    requires { (i < 32) × Image s.now × HadTurns 32 (next (view s.now)) (base_of (view s.now)) i given.old }
-    ensures { HadTurns 32 (next (view s.now)) (base_of (view s.now)) (i + 1) given.new }
+fn carry(s: &Image, given: &mut Priorities, i: usize)
+    requires { (i < task_count) × HadTurns task_count (next (view s.now)) (base_of (view s.now)) i given.old }
+    ensures { HadTurns task_count (next (view s.now)) (base_of (view s.now)) (i + 1) given.new }
 {
     let base = tasks::get_base(s, i);
     let mut j = next_of(s, i);
-    while j < 32 {
+    while j < layout::TASKS {
         let v = given[j];
         if v <= base {
             return;
@@ -68,8 +72,8 @@ fn carry(s: &[u8], given: &mut [u8], i: usize)
 }
 
 // The states of the eight tasks from `a` on, one bit over another. No task has a branch of its own, so that the compiler takes all at once.
-fn states_of(s: &[u8], a: usize) -> u8
-    requires { (a + 8 ≤ 32) × Image s.now }
+fn states_of(s: &Image, a: usize) -> u8
+    requires { a + 8 ≤ task_count }
     ensures { result ≡ states_from 8 a (view s.now) }
 {
     tasks::get_state(s, a)
@@ -82,37 +86,32 @@ fn states_of(s: &[u8], a: usize) -> u8
 }
 
 // The eight tasks from `a` on have their turns.
-fn carry_eight(s: &[u8], given: &mut [u8], a: usize)
-    requires { (a + 8 ≤ 32) × Image s.now × HadTurns 32 (next (view s.now)) (base_of (view s.now)) a given.old }
-    ensures { HadTurns 32 (next (view s.now)) (base_of (view s.now)) (a + 8) given.new }
+fn carry_eight(s: &Image, given: &mut Priorities, a: usize)
+    requires { (a + 8 ≤ task_count) × HadTurns task_count (next (view s.now)) (base_of (view s.now)) a given.old }
+    ensures { HadTurns task_count (next (view s.now)) (base_of (view s.now)) (a + 8) given.new }
 {
-    let mut i = a;
-    let end = a + 8;
-    while i < end {
+    for i in a..a + 8 {
         carry(s, given, i);
-        i += 1;
     }
 }
 
 // What each task is given by those from which a chain of waits leads to it: the smallest base priority of theirs where it is smaller than
-// its own, and else 255, as the bytes lent are. Eight tasks whose states together make at most 2 have none among them in state 3,
-// which waits for a mutex, and are passed over.
-pub fn carry_all(s: &[u8], given: &mut [u8])
-    requires { Image s.now × NoneGiven given.old }
+// its own, and else 255, as the bytes lent are. Eight tasks whose states together make less than that of a wait for a
+// mutex have none among them that waits for one, and are passed over.
+pub fn carry_all(s: &Image, given: &mut Priorities)
+    requires { NoneGiven given.old }
     ensures { given.new ≡ given_to_all (view s.now) }
 {
-    let mut a = 0;
-    while a < 32 {
-        if 2 < states_of(s, a) {
+    for a in (0..layout::TASKS).step_by(8) {
+        if tasks::WAITS_MUTEX <= states_of(s, a) {
             carry_eight(s, given, a);
         }
-        a += 8;
     }
 }
 
 // The working priority of task i, worked out afresh, where `given` has what it is given.
-pub fn fresh_of(s: &[u8], given: &[u8], i: usize) -> u8
-    requires { (i < 32) × Image s.now × Given (view s.now) given.now }
+pub fn fresh_of(s: &Image, given: &Priorities, i: usize) -> u8
+    requires { (i < task_count) × Given (view s.now) given.now }
     ensures { result ≡ fresh_in (view s.now) i }
 {
     let own = tasks::get_base(s, i);

@@ -3,63 +3,55 @@ ghost use Rattle.std.specs.Prelude.{◌≡◌, leb};
 ghost use Rattle.rules.specs.Sizes.{task_count};
 ghost use Rattle.rules.specs.Chain.{after, leads};
 ghost use Rattle.rules.specs.Move.{next};
-ghost use Rattle.table.specs.Image.{Image, view};
+ghost use Rattle.table.specs.Image.{view};
 ghost use Rattle.laws.specs.local.Local.{ringless};
 ghost use Rattle.laws.specs.local.Walk.{most};
 
 use table::layout;
+use table::layout::Image;
 
 // How many tasks a chain that is no ring has at most: its waits are for different mutexes.
 pub const MOST: usize = layout::MUTEXES + 1;
 
 // Whether a chain of waits leads from task h to task c.
-pub fn leads_to(s: &[u8], h: usize, c: usize) -> bool
-    requires { Image s.now }
+pub fn leads_to(s: &Image, h: usize, c: usize) -> bool
     ensures { result ≡ leads task_count (next (view s.now)) task_count h c }
 {
     let mut at = h;
-    let mut left = layout::TASKS;
-    while 0 < left {
+    for _ in 0..layout::TASKS {
         if at == c {
             return true;
         }
-        if 32 <= at {
+        if layout::TASKS <= at {
             return false;
         }
         at = crate::next_of(s, at);
-        left -= 1;
     }
     false
 }
 
 // Whether the chain from task j has an end.
-fn runs_out(s: &[u8], j: usize) -> bool
-    requires { Image s.now }
+fn runs_out(s: &Image, j: usize) -> bool
     ensures { result ≡ leb task_count (after (next (view s.now)) most j) }
 {
     let mut at = j;
-    let mut left = MOST;
-    while 0 < left {
-        if 32 <= at {
+    for _ in 0..MOST {
+        if layout::TASKS <= at {
             return true;
         }
         at = crate::next_of(s, at);
-        left -= 1;
     }
-    32 <= at
+    layout::TASKS <= at
 }
 
 // Whether each chain has an end: there is no ring.
-pub fn no_rings(s: &[u8]) -> bool
-    requires { Image s.now }
+pub fn no_rings(s: &Image) -> bool
     ensures { result ≡ ringless task_count (next (view s.now)) most task_count }
 {
-    let mut j = 0;
-    while j < layout::TASKS {
+    for j in 0..layout::TASKS {
         if !runs_out(s, j) {
             return false;
         }
-        j += 1;
     }
     true
 }

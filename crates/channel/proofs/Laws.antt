@@ -1,17 +1,23 @@
 -- The calls on channels, case by case.
 use mathlib.Core.Path.{◌≡◌, refl, sym, ap, ◌∙◌}
-use mathlib.Core.Bool.{Bool, true, false, cond, ◌||◌, true≢false}
+use Rattle.std.proofs.Common.{Result, Ok, Err, IsErrAnd}
+use mathlib.Core.Bool.{Bool, true, false, cond, not, ◌||◌, true≢false}
+use mathlib.Core.List.{List}
 use Prim.Native.Nat.{ℕ, ◌-◌, ◌≤◌, ◌<◌}
+use native.Mathlib.Omega.{arith}
 use lib.Dec.{eqb, ltb, leb}
-use borrow.Author.Tests.{eq-eqb, ne_eqb, ltb-false}
-use Rattle.rules.specs.Sizes.{task_count, channel_count, most_messages, given}
-use Rattle.rules.specs.Table.{Table, task_of, channel_queue, first_in, is_used, with_task, with_message}
+use borrow.Author.Tests.{le-leb, lt-leb, lt-ltb, le-ltb, eq-eqb, ne_eqb, ltb-false}
+use Rattle.rules.specs.Sizes.{task_count, channel_count, most_messages, given, done, beyond_range, not_in_use, bad_value, channel_full}
+use Rattle.rules.specs.Table.{Table, task_of, channel_of, channel_queue, first_in, is_used, with_task, with_message}
 use Rattle.rules.specs.Messages.{present, holding}
 use Rattle.rules.specs.Move.{ended}
 use Rattle.rules.specs.Step.{changes}
 use Rattle.rules.specs.Family.{channels}
-use Rattle.rules.specs.Object.{create_object, object_create_answer}
-use Rattle.rules.specs.Channel.{create_answer, right_capacity, delivered, with_posted, post}
+use Rattle.rules.specs.Object.{yes_no, object_create_answer}
+use Rattle.rules.specs.Channel.{create_answer, right_capacity, delivered, with_posted, is_full, post, flush_answer}
+use Rattle.service.specs.Answers.{refusal_number, refusal-keeps}
+use Rattle.service.specs.declared.answers.Refusal.{Refusal}
+use Rattle.service.specs.Told.{Told, told_of, tells-refused}
 use Rattle.laws.specs.queues.Put.{put_out, put-stays, place_same}
 
 -- ---- create
@@ -25,29 +31,17 @@ few_messages capacity e = go (eqb capacity 0) (ltb most_messages capacity) refl 
     go false true d f = absurd (true≢false f)
     go false false d f = ltb-false most_messages capacity d
 
--- An object's create that is not refused is answered 0.
-created : (a b : Bool) {r : ℕ} → r ≡ cond a 1 (cond b 3 0) → changes r ≡ true → r ≡ 0
-created true b e f = absurd (true≢false (sym f ∙ ap changes e))
-created false true e f = absurd (true≢false (sym f ∙ ap changes e))
-created false false e f = e
-
-module _ (c capacity : ℕ) (t : Table) {r u : ℕ} (used : u ≡ channels.used t c) (is : r ≡ create_object channel_count c u) where
-  answer : r ≡ object_create_answer channels c t
-  unfolding object_create_answer
-  answer = rw (← used) is
-
-  other : changes r ≡ false → eqb r 0 ≡ false
-  other f = ne_eqb r 0 λ e. true≢false (sym (ap changes e) ∙ f)
-
-  pub create-refused : changes r ≡ false → r ≡ create_answer c capacity t
+module _ (c capacity : ℕ) (t : Table) where
+  -- a number that may not be created is refused before its capacity is looked at
+  pub create-refused : (r : Refusal) → refusal_number r ≡ object_create_answer channels c t → refusal_number r ≡ create_answer c capacity t
   unfolding create_answer
-  create-refused f = rw (← answer, other f) refl
+  create-refused r e =
+      let other : eqb (refusal_number r) 0 ≡ false = ne_eqb (refusal_number r) 0 (λ z. true≢false (sym (ap changes z) ∙ refusal-keeps r)) in
+      rw (← e, other) refl
 
-  pub create-goes_on : changes r ≡ true → (n : ℕ) → n ≡ right_capacity capacity 0 → n ≡ create_answer c capacity t
+  pub create-goes_on : done ≡ object_create_answer channels c t → {n : ℕ} → n ≡ right_capacity capacity done → n ≡ create_answer c capacity t
   unfolding create_answer
-  create-goes_on f n e =
-      let z : object_create_answer channels c t ≡ 0 = sym answer ∙ created (leb channel_count c) (is_used u) is f in
-      rw z e
+  create-goes_on z e = rw (← z) e
 
 -- ---- a message in a task's record
 
@@ -70,3 +64,31 @@ module _ (c v front : ℕ) (t : Table) {w : ℕ} {u : Table} (first : w ≡ firs
   pub post-gives : (w ≡ 0 → ⊥) → u ≡ delivered (w - 1) v (ended given (w - 1) t) → u ≡ post c v front t
   unfolding post
   post-gives d made = rw (← first, ne_eqb _ _ d) made
+
+-- ---- the answer of a post, and of a flush
+
+module _ (c front : ℕ) (t : Table) where
+  abbrev pub post_rest : ℕ
+  post_rest = yes_no front (cond (is_full t c) channel_full done)
+
+  pub bad_front : 1 < front → bad_value ≡ post_rest
+  bad_front l = rw (lt-ltb _ _ l)
+
+  module _ (few : front ≤ 1) {most held : ℕ} (capacity : most ≡ (channel_of t c).capacity) (holds : held ≡ (channel_of t c).held) where
+    pub full : most ≤ held → channel_full ≡ post_rest
+    full l = rw (le-ltb _ _ few, ← capacity, ← holds, le-leb _ _ l)
+
+    pub not-full : held < most → done ≡ post_rest
+    not-full l = rw (le-ltb _ _ few, ← capacity, ← holds, lt-leb _ _ l)
+
+small : (a b : Bool) → cond a beyond_range (cond b not_in_use done) < 256
+small true b = omega arith
+small false true = omega arith
+small false false = omega arith
+
+pub flush-refused : (c : ℕ) (t : Table) {new : Table} {k : ℕ} {l : List ℕ} (r : Refusal) (answer : Result ℕ Refusal) → IsErrAnd answer (λ e. e ≡ r) → refusal_number r ≡ flush_answer c t → Told (flush_answer c t) new k (told_of answer) l l
+unfolding flush_answer
+flush-refused c t r (Err e) h is =
+    let n = ap refusal_number h ∙ is in
+    tells-refused n (rw n (small (leb channel_count c) (not (is_used (channels.used t c))))) (refusal-keeps e)
+flush-refused c t r (Ok d) h is = absurd h

@@ -8,48 +8,27 @@ ghost use Rattle.queue.specs.Order.{is_ordered};
 ghost use Rattle.queue.specs.Answers.{head_of, found_in, insert_answer, remove_answer, move_answer, inserted, moved_in, raised_in};
 ghost use Rattle.cqueue.specs.Numbers.{first_number, place_number, answer_number};
 
-use queue::{Answer, Found, Head};
+use queue::Refusal;
 
-fn first_number(head: Head) -> u32
-    ensures { result ≡ first_number head }
-{
-    match head {
-        Head::Is(id) => id as u32,
-        Head::Nobody => 256,
-    }
-}
-
-fn place_number(found: Found) -> usize
-    ensures { result ≡ place_number found }
-{
-    match found {
-        Found::At(at) => at,
-        Found::Nowhere => 18446744073709551615,
-    }
-}
-
-fn answer_number(answer: Answer) -> u32
+fn answer_number(answer: Result<(), Refusal>) -> u32
     ensures { result ≡ answer_number answer }
 {
     match answer {
-        Answer::Done => 0,
-        Answer::BeyondKeys => 1,
-        Answer::AlreadyThere => 2,
-        Answer::NotThere => 3,
-        Answer::Full => 4,
+        Ok(()) => 0,
+        Err(refusal) => refusal as u32,
     }
 }
 
 pub fn ntq_first(ids: &[u8]) -> u32
     ensures { result ≡ first_number (head_of ids.now) }
 {
-    first_number(queue::first(ids))
+    queue::first(ids).map_or(256, u32::from)
 }
 
 pub fn ntq_find(ids: &[u8], id: u8) -> usize
     ensures { result ≡ place_number (found_in id ids.now) }
 {
-    place_number(queue::find(ids, id))
+    queue::find(ids, id).unwrap_or(usize::MAX)
 }
 
 pub fn ntq_place_behind(ids: &[u8], keys: &[u8], key: u8) -> usize
@@ -104,8 +83,5 @@ pub fn ntq_move_before(ids: &mut [u8], keys: &[u8], id: u8) -> u32
 pub fn ntq_is_ordered(ids: &[u8], keys: &[u8]) -> u32
     ensures { result ≡ cond (is_ordered keys.now ids.now) 1 0 }
 {
-    if queue::is_ordered(ids, keys) {
-        return 1;
-    }
-    0
+    queue::is_ordered(ids, keys) as u32
 }

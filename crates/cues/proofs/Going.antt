@@ -7,7 +7,7 @@ use lib.ListN.{length, take, drop, set, length-set, take-append-drop}
 use lib.Seq.{take-suc-set, drop-set-lt, drop-cons, append_snoc, take-append_seam}
 use Rattle.queue.specs.Slots.{without}
 use Rattle.queue.specs.Answers.{head_of}
-use Rattle.queue.specs.declared.Head.TheVariants.{Is, Nobody}
+use Rattle.std.specs.Prelude.{Some, None}
 use Rattle.cues.specs.Plays.{with_first, played, left, over, Played}
 use Rattle.cues.specs.Evening.{Rising, InOrder, evening, PlayedInOrder}
 use Rattle.cues.specs.InOrder.{played-rising, plays_in_order}
@@ -32,7 +32,7 @@ unfolding over
 over_next cue p out n h = ap (λ (d : List ℕ). (cue ∷ p) ++ drop (suc (length p)) d) (drop-cons out n 0 h)
 
 module _ {l₀ out₀ : List ℕ} {n : ℕ} {l out : List ℕ} where
-  going_on : (m k : ℕ) (cue : ℕ) → m ≡ suc k → n < length out → head_of l ≡ Is cue → Going l₀ out₀ n m l out → Going l₀ out₀ (n + 1) k (without cue l) (set out n cue)
+  going_on : (m k : ℕ) (cue : ℕ) → m ≡ suc k → n < length out → head_of l ≡ Some cue → Going l₀ out₀ n m l out → Going l₀ out₀ (n + 1) k (without cue l) (set out n cue)
   unfolding played left
   going_on m k cue s h e g = subst (λ (j : ℕ). Going l₀ out₀ j k (without cue l) (set out n cue)) (omega arith) next
     where
@@ -54,7 +54,7 @@ module _ {l₀ out₀ : List ℕ} {n : ℕ} {l out : List ℕ} where
       }
 
   -- A turn of the loop.
-  pub going_turn : {l' : List ℕ} (cue : ℕ) → n < length out → head_of l ≡ Is cue → l' ≡ without cue l → Going l₀ out₀ n (length out - n) l out
+  pub going_turn : {l' : List ℕ} (cue : ℕ) → n < length out → head_of l ≡ Some cue → l' ≡ without cue l → Going l₀ out₀ n (length out - n) l out
       → Going l₀ out₀ (n + 1) (length (set out n cue) - (n + 1)) l' (set out n cue)
   going_turn cue h e w g =
       let s : length out - n ≡ suc (length (set out n cue) - (n + 1)) = omega (arith, length-set out n cue) in
@@ -69,7 +69,7 @@ module _ {l₀ out₀ : List ℕ} {n : ℕ} {l out : List ℕ} where
     rest = sym q ∙ g.rest;
   }
 
-  pub going_nobody : (m : ℕ) → head_of l ≡ Nobody → Going l₀ out₀ n m l out → Played l₀ out₀ n l out
+  pub going_nobody : (m : ℕ) → head_of l ≡ None → Going l₀ out₀ n m l out → Played l₀ out₀ n l out
   unfolding played left
   going_nobody zero e = ended zero refl refl
   going_nobody (suc m) e = ended (suc m) (ap (λ w. with_first w (λ cue. cue ∷ played m (without cue l)) []) e) (ap (λ w. with_first w (λ cue. left m (without cue l)) l) e)

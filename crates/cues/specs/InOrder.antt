@@ -9,11 +9,10 @@ use Rattle.std.proofs.Math.Decide.{ℕ_discrete}
 use Rattle.std.proofs.Math.ListN.{length, length-set}
 use Rattle.queue.specs.Slots.{first_at, key_of, pull, closed, without}
 use Rattle.queue.specs.Order.{Le, All, none, more, Ordered, empty, front, those, other, level, Whole}
-use Rattle.queue.specs.Answers.{head_of, insert_answer, move_answer}
+use Rattle.queue.specs.Answers.{Answer, head_of, insert_answer, move_answer}
 use Rattle.queue.specs.Keeps.{all_map, key_own, Agree}
 use Rattle.queue.specs.Stable.{those-skip}
 use Rattle.queue.specs.Changes.{made, newly, Bytes, peer, free-whole, inserted-whole, inserted-level, inserted-bytes, replaced_in-whole, replaced_in-level, replaced_in-bytes}
-use Rattle.queue.specs.declared.Answer.{Answer}
 use Rattle.cues.specs.Plays.{played}
 use Rattle.cues.specs.Evening.{level_of, Rising, nothing, next, of_level, InOrder, Desk, Step, lines_up, changes, accepted, step, evening, Opens}
 

@@ -1,14 +1,12 @@
 -- What the player does, in the words of the queue's contracts: it takes the first cue out again and again.
-use Rattle.std.specs.Prelude.{◌≡◌, List, [], ◌∷◌, ◌++◌, ℕ, zero, suc, length, drop}
+use Rattle.std.specs.Prelude.{Option, Some, None, ◌≡◌, List, [], ◌∷◌, ◌++◌, ℕ, zero, suc, length, drop}
 use Rattle.queue.specs.Slots.{without}
 use Rattle.queue.specs.Answers.{head_of}
-use Rattle.queue.specs.declared.Head.{Head}
-use Rattle.queue.specs.declared.Head.TheVariants.{Is, Nobody}
 
 -- One thing with the first cue, and another where there is none.
-abbrev pub with_first : Head → (ℕ → List ℕ) → List ℕ → List ℕ
-with_first (Is cue) one other = one cue
-with_first Nobody one other = other
+abbrev pub with_first : Option ℕ → (ℕ → List ℕ) → List ℕ → List ℕ
+with_first (Some cue) one other = one cue
+with_first None one other = other
 
 -- The cues that come out, n at most, in their order.
 unfoldable pub played : ℕ → List ℕ → List ℕ

@@ -3,17 +3,17 @@ use mathlib.Core.Path.{◌≡◌, refl, sym, ap, ◌∙◌}
 use mathlib.Core.Bool.{Bool, true, false, cond, ◌||◌, true≢false}
 use Prim.Native.Nat.{ℕ, zero, suc, ◌+◌, ◌-◌, ◌≤◌, ◌<◌}
 use native.Mathlib.Omega.{arith}
-use lib.Bits.{bit_or, bit_xor, and_zero_r}
+use lib.Bits.{bit_or, bit_xor}
 use lib.ListN.{get_or-eq_default}
 use lib.Dec.{eqb, leb}
-use borrow.Author.Tests.{eq-eqb, ne_eqb, leb-false}
-use Rattle.rules.specs.Sizes.{task_count, test_count, waits_flags, given}
-use Rattle.rules.specs.Table.{Table, Asked, asking, task_of, group_queue, slot_in, asked_by, no_task}
+use borrow.Author.Tests.{lt-ltb, le-ltb, eq-eqb, ne_eqb, leb-false}
+use Rattle.rules.specs.Sizes.{task_count, test_count, given, done, bad_value}
+use Rattle.rules.specs.Table.{Table, Asked, nothing_asked, task_of, group_queue, slot_in, asked_by, no_task}
 use Rattle.rules.specs.Move.{ended}
-use Rattle.rules.specs.Walk.{walk_on}
-use Rattle.rules.specs.Object.{blocked, waits, taken}
+use Rattle.rules.specs.Object.{yes_no, waits, taken}
+use Rattle.rules.specs.Family.{groups}
 use Rattle.rules.specs.Sound.{Shaped}
-use Rattle.rules.specs.Group.{flags_of, with_flags_of, meeting, is_met, consumed, turned_over, woken, wait}
+use Rattle.rules.specs.Group.{flags_of, with_flags_of, is_met, consumed, turned_over, rightly_asked, woken, wait}
 
 -- A mask, and one of the four tests.
 pub few_tests : (mask test : ℕ) → (eqb mask 0 || leb test_count test) ≡ false → test < test_count
@@ -24,12 +24,34 @@ few_tests mask test e = go (eqb mask 0) (leb test_count test) refl e
     go false true d f = absurd (true≢false f)
     go false false d f = leb-false test_count test d
 
+-- Whether a wait asks rightly, with the answer n where it does.
+module _ (a : Asked) where
+  pub no-test : (eqb a.mask 0 || leb test_count a.test) ≡ true → (n : ℕ) → bad_value ≡ rightly_asked a n
+  no-test e n = rw e
+
+  module _ (tested : (eqb a.mask 0 || leb test_count a.test) ≡ false) where
+    pub no_consume : 1 < a.consume → (n : ℕ) → bad_value ≡ rightly_asked a n
+    no_consume l n = rw (tested, lt-ltb _ _ l)
+
+    pub asks_rightly : a.consume ≤ 1 → (n : ℕ) → n ≡ rightly_asked a n
+    asks_rightly l n = rw (tested, le-ltb _ _ l)
+
+-- Whether a post does.
+module _ (mask on : ℕ) where
+  pub no-mask : mask ≡ 0 → bad_value ≡ cond (eqb mask 0) bad_value (yes_no on done)
+  no-mask e = rw (eq-eqb _ _ e)
+
+  module _ (some : mask ≡ 0 → ⊥) where
+    pub no_on : 1 < on → bad_value ≡ cond (eqb mask 0) bad_value (yes_no on done)
+    no_on l = rw (ne_eqb _ _ some, lt-ltb _ _ l)
+
+    pub posts_rightly : on ≤ 1 → done ≡ cond (eqb mask 0) bad_value (yes_no on done)
+    posts_rightly l = rw (ne_eqb _ _ some, le-ltb _ _ l)
+
 -- ---- a wait: it is met, or it blocks
 
-module _ (g limit : ℕ) (t : Table) (a : Asked) {f : ℕ} (flags : f ≡ flags_of t g) {b : Bool} (met : b ≡ is_met f (asking a.mask a.test 0)) where
-  -- What is consumed has no part in the test.
+module _ (g limit : ℕ) (t : Table) (a : Asked) {f : ℕ} (flags : f ≡ flags_of t g) {b : Bool} (met : b ≡ is_met f a) where
   test : b ≡ is_met (flags_of t g) a
-  unfolding is_met meeting
   test = met ∙ ap (λ (x : ℕ). is_met x a) flags
 
   module _ (is : b ≡ true) where
@@ -44,23 +66,14 @@ module _ (g limit : ℕ) (t : Table) (a : Asked) {f : ℕ} (flags : f ≡ flags_
     pub blocks-answer : {r n : ℕ} → r ≡ n → r ≡ cond (is_met (flags_of t g) a) 0 n
     blocks-answer e = rw (sym test ∙ is) e
 
-    pub blocks : blocked waits_flags g limit a t ≡ wait g limit a t
-    unfolding wait waits walk_on
+    pub blocks : waits groups g limit a t ≡ wait g limit a t
+    unfolding wait
     blocks = rw (sym test ∙ is)
 
 -- ---- a number that is no task's asks nothing
 
-module _ {t : Table} (s : Shaped t) (w flags : ℕ) (l : task_count ≤ w) where
-  nothing : task_of t w ≡ no_task
-  nothing = get_or-eq_default t.tasks no_task (omega (arith, s.tasks))
-
-  pub nobody-met : true ≡ is_met flags (asked_by (task_of t w))
-  unfolding is_met meeting
-  nobody-met = rw (nothing, and_zero_r flags)
-
-  pub nobody_eats : 0 ≡ consumed flags (asked_by (task_of t w))
-  unfolding consumed
-  nobody_eats = rw nothing
+pub nobody-asks : {t : Table} → Shaped t → (w : ℕ) → task_count ≤ w → nothing_asked ≡ asked_by (task_of t w)
+nobody-asks {t} s w l = ap asked_by (sym (get_or-eq_default t.tasks no_task (omega (arith, s.tasks))))
 
 -- ---- the waiters, one after another
 

@@ -1,17 +1,14 @@
 -- Which calls an interrupt may make, by the kind byte alone.
-use Rattle.std.specs.Prelude.{Bool, ◌&&◌, List, ◌≢◌, ◌⊎◌, ◌≡◌, ℕ, ◌-◌, ◌≤◌, ◌<◌, eqb, get_or}
+use Rattle.std.specs.Prelude.{Bool, Option, Some, None, ◌&&◌, List, ◌≢◌, ◌⊎◌, ◌≡◌, ℕ, ◌-◌, ◌≤◌, ◌<◌, eqb, get_or}
 use Rattle.std.proofs.Math.Bool.{true, false, cond, not}
 use Rattle.std.proofs.Common.{true≢false, inl, inr, ◌∙◌, arith, ne_eqb, leb-true, ltb-true}
 use Rattle.std.proofs.Math.Path.{refl, sym, ap, subst}
-use Rattle.rules.specs.Kinds.{Kind, kinds, told_in, told_of, is_interrupt, plain_kind, of_kind, reading, spelled}
+use Rattle.rules.specs.Kinds.{Kind, kinds, told_in, told_of, is_interrupt, plain_kind, says_call, says_none, of_kind, reading, spelled}
 use Rattle.rules.specs.KindLaws.{Each, end, with}
 use Rattle.rules.specs.Step.{for_interrupts}
 use Rattle.rules.specs.declared.Call.{Call}
 use Rattle.rules.specs.declared.Reading.{Reading}
-use Rattle.rules.specs.declared.Reading.TheVariants.{Says, Unknown}
-use Rattle.kinds.specs.declared.Row.{Row}
-use Rattle.kinds.specs.declared.Row.TheVariants.{Has, Lacks}
-use Rattle.kinds.specs.Row.{row_of, row_none, said_in, row-says}
+use Rattle.kinds.specs.Row.{Row, row_of, row_none, said_in, row-says}
 
 -- Whether an interrupt may make calls of the kind k; it may make none that the list lacks.
 unfoldable pub may_make : ℕ → Bool
@@ -54,19 +51,22 @@ let_in_else kind tick semaphore group channel = go (is_interrupt kind) refl
 
 -- ---- the list and the calls agree
 
+abbrev pub may_of : Option Call → Bool
+may_of (Some c) = for_interrupts c
+may_of None = false
+
 -- What is read goes by `interrupt`, and whether an interrupt may make it is `may`.
 abbrev pub Agrees : (interrupt may : Bool) → Reading → Type 0
-Agrees interrupt may (Says c i) = (i ≡ interrupt) × (may ≡ for_interrupts c)
-Agrees interrupt may (Unknown i) = (i ≡ interrupt) × (may ≡ false)
+Agrees interrupt may r = (r.interrupt ≡ interrupt) × (may ≡ may_of r.call)
 
 module _ (k : ℕ) (n : ℕ → ℕ) (interrupt : Bool) where
   agree_in : (l : List Kind) → Each (λ r. r.interrupts ≡ for_interrupts (r.call n)) l
-      → Agrees interrupt (told_in l k (λ r. r.interrupts) false) (told_in l k (λ r. Says (r.call n) interrupt) (Unknown interrupt))
+      → Agrees interrupt (told_in l k (λ r. r.interrupts) false) (told_in l k (λ r. says_call (r.call n) interrupt) (says_none interrupt))
   unfolding told_in
   agree_in l end = (refl, refl)
   agree_in l (with {r} {rs} p e) = go (eqb k r.byte) _ _ (agree_in rs e)
     where
-      go : (b may : Bool) (said : Reading) → Agrees interrupt may said → Agrees interrupt (cond b r.interrupts may) (cond b (Says (r.call n) interrupt) said)
+      go : (b may : Bool) (said : Reading) → Agrees interrupt may said → Agrees interrupt (cond b r.interrupts may) (cond b (says_call (r.call n) interrupt) said)
       go true may said a = (refl, p)
       go false may said a = a
 
@@ -88,13 +88,6 @@ none_high : {k : ℕ} {l : List Kind} → 0x80 ≤ k → Each (λ r. r.byte < 0x
 none_high h end = end
 none_high h (with {r} d e) = with {r = r} (λ z. omega (arith, h, d, z)) (none_high h e)
 
-has≢lacks : {c : Call} {w : ℕ} → Has c w ≢ Lacks
-has≢lacks e = true≢false (ap is_has e)
-  where
-    is_has : Row → Bool
-    is_has (Has c w) = true
-    is_has Lacks = false
-
 -- Of a barred byte the bit is set.
 barred-high : (kind : ℕ) → barred kind ≡ true → 0x80 ≤ kind
 unfolding barred
@@ -105,31 +98,33 @@ barred-high kind e = go (is_interrupt kind) refl
     go false i = absurd (true≢false (sym e ∙ ap (λ (b : Bool). b && not (may_make (plain_kind kind))) i))
 
 module _ (kind : ℕ) (numbers : List ℕ) where
-  barred-lacks : barred kind ≡ true → row_of (let_in kind) numbers ≡ Lacks
+  barred-lacks : barred kind ≡ true → row_of (let_in kind) numbers ≡ None
   unfolding let_in
   barred-lacks e = ap (λ (b : Bool). row_of (cond b kind (plain_kind kind)) numbers) e ∙ sym (row_none kind numbers (none_high (barred-high kind e) low))
 
   -- What is not barred is read as its row says.
-  free-says : {row : Row} → barred kind ≡ false → row_of (let_in kind) numbers ≡ row → reading kind numbers ≡ said_in (is_interrupt kind) row
+  free-says : {row : Option Row} → barred kind ≡ false → row_of (let_in kind) numbers ≡ row → reading kind numbers ≡ said_in (is_interrupt kind) row
   unfolding let_in
-  free-says e f = sym (row-says kind numbers refl (ap (λ (b : Bool). cond b kind (plain_kind kind)) e) refl f)
+  free-says e f =
+      let free : let_in kind ≡ plain_kind kind = ap (λ (b : Bool). cond b kind (plain_kind kind)) e in
+      sym (row-says kind numbers) ∙ ap (said_in (is_interrupt kind)) (ap (λ (k : ℕ). row_of k numbers) (sym free) ∙ f)
 
   -- A call that is let in is read so, and may be made;
-  pub let_in_has : {c : Call} {w : ℕ} → row_of (let_in kind) numbers ≡ Has c w → (reading kind numbers ≡ Says c (is_interrupt kind)) × ((is_interrupt kind && not (for_interrupts c)) ≡ false)
+  pub let_in_has : {c : Call} {w : ℕ} → row_of (let_in kind) numbers ≡ Some (c, w) → (reading kind numbers ≡ says_call c (is_interrupt kind)) × ((is_interrupt kind && not (for_interrupts c)) ≡ false)
   unfolding barred
   let_in_has {c} {w} f = go (barred kind) refl
     where
-      go : (b : Bool) → barred kind ≡ b → (reading kind numbers ≡ Says c (is_interrupt kind)) × ((is_interrupt kind && not (for_interrupts c)) ≡ false)
-      go true e = absurd (has≢lacks (sym f ∙ barred-lacks e))
+      go : (b : Bool) → barred kind ≡ b → (reading kind numbers ≡ says_call c (is_interrupt kind)) × ((is_interrupt kind && not (for_interrupts c)) ≡ false)
+      go true e = let z : ◌≡◌ {A = Option Row} (Some (c, w)) None = sym f ∙ barred-lacks e in cc
       go false e =
           let is = free-says e f in
           let (i, may) = subst (Agrees (is_interrupt kind) (may_make (plain_kind kind))) is (reading-agrees kind numbers) in
           (is, ap (λ (b : Bool). is_interrupt kind && not b) (sym may) ∙ e)
 
   -- and what is in no row is barred, or the list lacks it.
-  pub let_in_lacks : row_of (let_in kind) numbers ≡ Lacks → (barred kind ≡ true) ⊎ (reading kind numbers ≡ Unknown (is_interrupt kind))
+  pub let_in_lacks : row_of (let_in kind) numbers ≡ None → (barred kind ≡ true) ⊎ (reading kind numbers ≡ says_none (is_interrupt kind))
   let_in_lacks f = go (barred kind) refl
     where
-      go : (b : Bool) → barred kind ≡ b → (barred kind ≡ true) ⊎ (reading kind numbers ≡ Unknown (is_interrupt kind))
+      go : (b : Bool) → barred kind ≡ b → (barred kind ≡ true) ⊎ (reading kind numbers ≡ says_none (is_interrupt kind))
       go true e = inl e
       go false e = inr (free-says e f)

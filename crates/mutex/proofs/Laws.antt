@@ -1,14 +1,15 @@
 -- The calls on mutexes, case by case.
-use mathlib.Core.Path.{◌≡◌, ◌∙◌}
+use mathlib.Core.Path.{◌≡◌, refl, ap, ◌∙◌}
+use mathlib.Core.Bool.{Bool, true, false, cond, not}
 use Prim.Native.Nat.{ℕ, ◌+◌, ◌-◌, ◌≤◌, ◌<◌}
 use borrow.Author.Tests.{le-leb, lt-leb, lt-ltb, le-ltb, eq-eqb, ne_eqb}
-use Rattle.rules.specs.Sizes.{most_nested, waits_mutex, given, done, nested_too_deep}
-use Rattle.rules.specs.Table.{Table, nothing_asked, task_of, mutex_of, holder_of, mutex_queue, no_mutex, with_mutex}
-use Rattle.rules.specs.Move.{put, walk, ready}
+use Rattle.rules.specs.Sizes.{most_nested, given, done, none_running, not_its_holder, nested_too_deep}
+use Rattle.rules.specs.Table.{Table, nothing_asked, task_of, mutex_of}
+use Rattle.rules.specs.Move.{put, ready}
 use Rattle.rules.specs.Time.{caller_of}
-use Rattle.rules.specs.Object.{block_answer, blocked, waits, taken, emptied, object_delete}
+use Rattle.rules.specs.Object.{on_one, block_answer, waits, taken}
 use Rattle.rules.specs.Family.{mutexes}
-use Rattle.rules.specs.Mutex.{with_hold_of, take_answer, wait, handed, released, post}
+use Rattle.rules.specs.Mutex.{is_own, with_hold_of, take_answer, wait, handed, released, post_answer, post}
 
 module _ (i : ℕ) (t : Table) where
   -- ---- a wait: it takes, it nests, or it blocks
@@ -25,8 +26,8 @@ module _ (i : ℕ) (t : Table) where
       pub blocks-answer : (block : ℕ) → block_answer block t ≡ take_answer i block t
       blocks-answer block = rw (← holder, ← caller, ne_eqb _ _ held, ne_eqb _ _ other)
 
-      pub blocks : (limit : ℕ) → walk (h - 1) (blocked waits_mutex i limit nothing_asked t) ≡ wait i limit t
-      unfolding wait waits holder_of
+      pub blocks : (limit : ℕ) → waits mutexes i limit nothing_asked t ≡ wait i limit t
+      unfolding wait
       blocks limit = rw (← holder, ← caller, ne_eqb _ _ held, ne_eqb _ _ other)
 
     module _ (held : h ≡ 0 → ⊥) (own : h ≡ c + 1) {n : ℕ} (nesting : n ≡ (mutex_of t i).nesting) where
@@ -61,8 +62,24 @@ module _ (i : ℕ) (t : Table) where
   unfolding handed
   handed_some w d u e = rw (ne_eqb w 0 d, e)
 
-  -- ---- a mutex that goes: its waiters are let go, its record is cleared, and the chain from its holder moves
+  -- ---- the answer of a post
 
-  pub deleted : {h : ℕ} {free stored moved : Table} → h ≡ holder_of t i → free ≡ emptied (mutex_queue i) t → stored ≡ with_mutex i no_mutex free → moved ≡ walk h stored → moved ≡ object_delete mutexes i t
-  unfolding object_delete
-  deleted holder e d m = m ∙ rw (holder, d, e)
+  module _ {r : ℕ} (runs : r ≡ t.running) where
+    pub nobody-posts : r ≡ 0 → none_running ≡ post_answer i t
+    unfolding post_answer
+    nobody-posts e = rw (← runs, eq-eqb _ _ e)
+
+    pub posts : (r ≡ 0 → ⊥) → {a : ℕ} → a ≡ on_one mutexes i t (cond (not (is_own i t)) not_its_holder done) → a ≡ post_answer i t
+    unfolding post_answer
+    posts d e = rw (ne_eqb t.running 0 (λ z. d (runs ∙ z))) e
+
+  -- of a mutex in use, by whoever holds it or not
+  module _ {b : Bool} (own : b ≡ is_own i t) where
+    answer : {n : ℕ} → n ≡ cond (not b) not_its_holder done → n ≡ cond (not (is_own i t)) not_its_holder done
+    answer e = e ∙ ap (λ (x : Bool). cond (not x) not_its_holder done) own
+
+    pub not-own : b ≡ false → not_its_holder ≡ cond (not (is_own i t)) not_its_holder done
+    not-own e = answer (rw e refl)
+
+    pub own_mutex : b ≡ true → done ≡ cond (not (is_own i t)) not_its_holder done
+    own_mutex e = answer (rw e refl)

@@ -1,14 +1,17 @@
 -- The caller takes an object at once, and its outcome alone changes; or it blocks.
 use mathlib.Core.Path.{◌≡◌, refl, sym, ◌∙◌}
-use Prim.Native.Nat.{ℕ, ◌≤◌, ◌<◌}
+use mathlib.Core.Bool.{Bool, true, false, ◌&&◌}
+use Prim.Native.Nat.{ℕ, ◌-◌, ◌≤◌, ◌<◌}
 use lib.Dec.{eqb}
 use lib.ListN.{length}
-use Rattle.rules.specs.Sizes.{task_count, given}
-use Rattle.rules.specs.Table.{Table, Asked, task_of, with_task, with_state, with_outcome, with_asked}
+use borrow.Author.Tests.{lt-ltb, le-ltb, eq-eqb, ne_eqb}
+use Rattle.rules.specs.Sizes.{task_count, given, aborted, done, bad_value, no_waiter, still_needed}
+use Rattle.rules.specs.Table.{Table, Asked, task_of, first_in, with_task, with_state, with_outcome, with_asked}
 use Rattle.rules.specs.declared.Task.{Task}
-use Rattle.rules.specs.Family.{place_of}
+use Rattle.rules.specs.Family.{Family, place_of, waiters_of}
 use Rattle.rules.specs.Time.{caller_of}
-use Rattle.rules.specs.Object.{limited, blocked, taken}
+use Rattle.rules.specs.Move.{walk, ended}
+use Rattle.rules.specs.Object.{limited, blocked, taken, abort_answer, abort, object_abort, emptied, has_waiter, delete_answer, object_delete}
 use Rattle.laws.specs.queues.Put.{whichever, put_out, put-stays, place_same}
 use Rattle.table.specs.Settled.{settled, then_stored, settled-put}
 
@@ -39,3 +42,34 @@ module _ (t : Table) {i : ℕ} (caller : i ≡ caller_of t) where
         let k = limited limit t (task_of t i) in
         let w = d ∙ then_stored i t l size (with_state state object) k marked e in
         rw (← caller) (settled-put i (with_asked a (with_state state object k)) t l size asked (f ∙ then_stored i t l size (with_asked a) (with_state state object k) stored w) q place (limited-work limit t (task_of t i)))
+
+-- ---- abort and delete, of number o, where v stands first in its queue q
+
+module _ (f : Family) (o : ℕ) (t : Table) {q v : ℕ} (place : q ≡ waiters_of f o) (first : v ≡ first_in q t) where
+  pub no-waiter : v ≡ 0 → no_waiter ≡ abort_answer (waiters_of f o) t
+  no-waiter e = rw (← place, ← first, eq-eqb _ _ e)
+
+  pub a-waiter : (v ≡ 0 → ⊥) → done ≡ abort_answer (waiters_of f o) t
+  a-waiter d = rw (← place, ← first, ne_eqb _ _ d)
+
+  pub aborts : {u : Table} → u ≡ ended aborted (v - 1) t → u ≡ object_abort f o t
+  unfolding object_abort abort
+  aborts e = rw (← place, ← first) e
+
+module _ (f : Family) (o : ℕ) (t : Table) {q h : ℕ} (place : q ≡ waiters_of f o) (holder : h ≡ f.holder t o) where
+  -- its waiters are let go, it goes, and the chain from its holder moves
+  pub deletes : (free gone moved : Table) → free ≡ emptied q t → gone ≡ f.gone o free → moved ≡ walk h gone → moved ≡ object_delete f o t
+  unfolding object_delete
+  deletes free gone moved d e m = m ∙ rw (holder, e, d, place)
+
+-- the answer of a delete of an object in use
+module _ (force q : ℕ) (t : Table) where
+  pub bad-force : 1 < force → bad_value ≡ delete_answer force q t
+  bad-force l = rw (lt-ltb _ _ l)
+
+  module _ {p : ℕ} {b : Bool} (few : force ≤ 1) (place : p ≡ q) (waiter : b ≡ has_waiter p t) where
+    pub needed : (eqb force 0 && b) ≡ true → still_needed ≡ delete_answer force q t
+    needed e = rw (le-ltb _ _ few, ← place, ← waiter, e)
+
+    pub not-needed : (eqb force 0 && b) ≡ false → done ≡ delete_answer force q t
+    not-needed e = rw (le-ltb _ _ few, ← place, ← waiter, e)

@@ -1,5 +1,4 @@
--- What the answers of `object` tell a service, whose code is `if service::refuses(r) { return r; }` and then what its kind does: where it goes
--- on its number is in range, and a wait has the answer of its kind.
+-- What the answers that every kind has tell of a call: where one goes on its number is in range, and a wait has the answer of its kind.
 use Rattle.std.specs.Prelude.{◌≡◌, refl, Bool, true, false, cond, not, List, ℕ, ◌<◌, eqb, ltb, leb}
 use Rattle.std.proofs.Common.{sym, ap, ◌∙◌, true≢false, leb-false}
 use Rattle.std.proofs.lemmas.Bool.{false≢true, not-true}

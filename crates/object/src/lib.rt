@@ -1,75 +1,89 @@
-// The calls that every kind of object has, on its numbers: how many there are, the first of their queues, and the byte that says whether
-// number i is in use. A kind stores what is its own.
+// The calls that every kind of object has, over the kind: the checks with which its calls begin, the wait that blocks, delete and abort.
 #![tactic(auto)]
 
-ghost use Rattle.std.specs.Prelude.{◌≡◌, ◌+◌, ◌<◌};
-ghost use Rattle.rules.specs.Sizes.{done};
-ghost use Rattle.rules.specs.Table.{asking, nothing_asked, task_of, with_task};
-ghost use Rattle.rules.specs.Move.{walk, chosen};
-ghost use Rattle.rules.specs.Time.{by_caller};
-ghost use Rattle.rules.specs.Object.{on_object, create_object, yes_no, has_waiter, block_answer, limited, blocked, taken, abort_answer, abort, delete_answer, emptied};
-ghost use Rattle.table.specs.Image.{Image, view};
+ghost use Rattle.std.specs.Prelude.{◌≡◌, ℕ, ◌<◌, IfOk};
+ghost use Rattle.rules.specs.Sizes.{task_count, done, blocks};
+ghost use Rattle.rules.specs.Table.{task_of, with_task};
+ghost use Rattle.rules.specs.Move.{chosen};
+ghost use Rattle.rules.specs.Object.{on_one, object_create_answer, wait_answer_on, has_waiter, block_answer, limited, blocked, waits, taken, object_abort_answer, object_abort, object_delete_answer, object_delete};
+ghost use Rattle.table.specs.Image.{view};
+ghost use Rattle.service.specs.Answers.{number_of, answer_after};
 ghost use Rattle.service.specs.Served.{Served};
+ghost use Rattle.object.specs.Asking.{asked_in};
 
 use chain::walk;
+use service::answers::{Answer, Done, Refusal};
 use service::ending;
+use table::families::Kind;
+use table::layout::{self, Image};
+use table::tasks::Asked;
 use table::{moves, numbers, tasks};
 
-// The answer of a create of number i.
-pub fn create_answer(used: u8, count: u32, i: u32) -> u8
-    ensures { result ≡ create_object count i used }
+pub mod kinds;
+
+use kinds::Object;
+
+// ---- the checks: each gives the number, in range, or says why not
+
+pub fn in_use<K: Kind>(s: &Image, i: u32) -> Result<usize, Refusal>
+    ensures answers { (n : ℕ) → answer_after result n ≡ on_one K.family i (view s.now) n }
+    ensures within { IfOk result (λ j. (j ≡ i) × (j < K.family.count)) }
 {
-    if count <= i {
-        return 1;
+    let j = i as usize;
+    if K::COUNT <= j {
+        return Err(Refusal::BeyondRange);
     }
-    if used == 1 {
-        return 3;
+    if K::get_used(s, j) != 1 {
+        return Err(Refusal::NotInUse);
     }
-    0
+    Ok(j)
 }
 
-// The answer of a wait for number i as far as it is every kind's: 0 where the kind is asked what it has to take.
-pub fn ask_answer(s: &[u8], used: u8, count: u32, i: u32, block: u32) -> u8
-    requires { Image s.now }
-    ensures { result ≡ by_caller (view s.now) (on_object count i used (yes_no block done)) }
+pub fn may_create<K: Kind>(s: &Image, i: u32) -> Result<usize, Refusal>
+    ensures answers { answer_after result done ≡ object_create_answer K.family i (view s.now) }
+    ensures within { IfOk result (λ j. (j ≡ i) × (j < K.family.count)) }
+{
+    let j = i as usize;
+    if K::COUNT <= j {
+        return Err(Refusal::BeyondRange);
+    }
+    if K::get_used(s, j) == 1 {
+        return Err(Refusal::InUse);
+    }
+    Ok(j)
+}
+
+// As far as a wait is every kind's; the kind is asked then what it has to take.
+pub fn may_wait<K: Kind>(s: &Image, i: u32, block: u32) -> Result<usize, Refusal>
+    ensures answers { (n : ℕ) → answer_after result n ≡ wait_answer_on K.family i block n (view s.now) }
+    ensures within { IfOk result (λ j. (j ≡ i) × (j < K.family.count)) }
 {
     if numbers::get_running(s) == 0 {
-        return 6;
+        return Err(Refusal::NoneRunning);
     }
-    if count <= i {
-        return 1;
-    }
-    if !(used == 1) {
-        return 2;
-    }
+    let j = in_use::<K>(s, i)?;
     if 1 < block {
-        return 4;
+        return Err(Refusal::BadValue);
     }
-    0
+    Ok(j)
 }
 
-fn has_waiter(s: &[u8], q: usize) -> bool
-    requires { Image s.now }
-    ensures { result ≡ has_waiter q (view s.now) }
-{
-    !(moves::first_in(s, q) == 0)
-}
+// ---- a wait
 
 // The caller takes the object at once: outcome 0.
-pub fn take_now(s: &mut [u8])
-    requires { Image s.old }
+pub fn take_now(s: &mut Image)
     ensures { view s.new ≡ taken (view s.old) }
 {
     let i = numbers::caller_of(s);
-    if 32 <= i {
+    if layout::TASKS <= i {
         return;
     }
-    tasks::set_outcome(s, i, 0);
+    tasks::set_outcome(s, i, ending::GIVEN);
 }
 
 // Task i has the due mark of a time limit, or none where there is no limit.
-fn set_limit(s: &mut [u8], i: usize, limit: u32)
-    requires { (i < 32) × Image s.old }
+fn set_limit(s: &mut Image, i: usize, limit: u32)
+    requires { i < task_count }
     ensures { view s.new ≡ with_task i (limited limit (view s.old) (task_of (view s.old) i)) (view s.old) }
 {
     if limit == 0 {
@@ -81,88 +95,90 @@ fn set_limit(s: &mut [u8], i: usize, limit: u32)
 }
 
 // The caller leaves the able queue and goes behind its equals in the object's queue; what it asks of flags stands in its record.
-pub fn block_on(s: &mut [u8], state: u8, object: u8, limit: u32, mask: u32, test: u8, consume: u8)
-    requires { Image s.old }
-    ensures { view s.new ≡ blocked state object limit (asking mask test consume) (view s.old) }
+pub fn block_on(s: &mut Image, state: u8, object: u8, limit: u32, asked: Asked)
+    ensures { view s.new ≡ blocked state object limit (asked_in asked) (view s.old) }
 {
     let i = numbers::caller_of(s);
-    if 32 <= i {
+    if layout::TASKS <= i {
         return;
     }
     let q = moves::place_of(s, i);
     set_limit(s, i, limit);
     tasks::set_state(s, i, state, object);
-    tasks::set_asked(s, i, mask, test, consume);
+    tasks::set_asked(s, i, asked);
     moves::settle(s, i, q);
 }
 
-// The answer of a wait for an object in use that has nothing to take.
-pub fn block_answer(s: &[u8], block: u32) -> u8
-    requires { Image s.now }
-    ensures { result ≡ block_answer block (view s.now) }
+// Whether a wait for an object in use that has nothing to take may block.
+fn may_block(s: &Image, block: u32) -> Result<(), Refusal>
+    ensures { answer_after result blocks ≡ block_answer block (view s.now) }
 {
     if block == 0 {
-        return 8;
+        return Err(Refusal::NothingToTake);
     }
-    if !(numbers::get_depth(s) == 0) {
-        return 7;
+    if numbers::get_depth(s) != 0 {
+        return Err(Refusal::WhileLocked);
     }
-    14
+    Ok(())
 }
 
-// The wait that asks nothing of it, as for semaphores and mutexes. Where it blocks, the chain from the object's holder moves; 32 for none.
-pub fn wait_for(s: &mut [u8], state: u8, object: u8, holder: usize, block: u32, limit: u32) -> u8
-    requires { Image s.old }
-    ensures { Served (block_answer block (view s.old)) (chosen (walk holder (blocked state object limit nothing_asked (view s.old)))) result s.old s.new }
+// The wait that finds nothing to take. Where it blocks, the chain from the object's holder moves.
+pub fn wait_for<K: Object>(s: &mut Image, i: usize, block: u32, limit: u32, asked: Asked) -> Answer
+    requires { i < K.family.count }
+    ensures { Served (block_answer block (view s.old)) (chosen (waits K.family i limit (asked_in asked) (view s.old))) (number_of result) s.old s.new }
 {
-    let n = block_answer(s, block);
-    if service::refuses(n) {
-        return n;
-    }
-    block_on(s, state, object, limit, 0, 0, 0);
+    may_block(s, block)?;
+    let holder = K::get_holder(s, i);
+    block_on(s, K::STATE, i as u8, limit, asked);
     walk::walk_from(s, holder);
     moves::choose(s);
-    n
+    Ok(Done::Waits)
 }
 
-// The abort of number i.
-pub fn abort_object(s: &mut [u8], used: u8, count: u32, first: u8, i: u32) -> u8
-    requires { Image s.old }
-    ensures { Served (on_object count i used (abort_answer (first + i) (view s.old))) (chosen (abort (first + i) (view s.old))) result s.old s.new }
+// ---- abort and delete
+
+pub fn abort<K: Kind>(s: &mut Image, i: u32) -> Answer
+    ensures { Served (object_abort_answer K.family i (view s.old)) (chosen (object_abort K.family i (view s.old))) (number_of result) s.old s.new }
 {
-    if count <= i {
-        return 1;
-    }
-    if !(used == 1) {
-        return 2;
-    }
-    let v = moves::first_in(s, first as usize + i as usize);
+    let j = in_use::<K>(s, i)?;
+    let v = moves::first_in(s, K::FIRST + j);
     if v == 0 {
-        return 19;
+        return Err(Refusal::NoWaiter);
     }
-    ending::end_wait(s, 2, v as usize - 1);
+    ending::end_wait(s, ending::ABORTED, v as usize - 1);
     moves::choose(s);
-    0
+    Ok(Done::Now)
 }
 
-// The answer of a delete of number i; where it is done, each of its waiters is let go. Then the object goes.
-pub fn delete_waiters(s: &mut [u8], used: u8, count: u32, first: u8, i: u32, force: u32) -> u8
-    requires { Image s.old }
-    ensures { Served (on_object count i used (delete_answer force (first + i) (view s.old))) (emptied (first + i) (view s.old)) result s.old s.new }
+fn has_waiter(s: &Image, q: usize) -> bool
+    ensures { result ≡ has_waiter q (view s.now) }
 {
-    if count <= i {
-        return 1;
-    }
-    if !(used == 1) {
-        return 2;
-    }
+    moves::first_in(s, q) != 0
+}
+
+fn may_delete<K: Kind>(s: &Image, i: u32, force: u32) -> Result<usize, Refusal>
+    ensures answers { answer_after result done ≡ object_delete_answer K.family i force (view s.now) }
+    ensures within { IfOk result (λ j. (j ≡ i) × (j < K.family.count)) }
+{
+    let j = in_use::<K>(s, i)?;
     if 1 < force {
-        return 4;
+        return Err(Refusal::BadValue);
     }
-    let q = first as usize + i as usize;
-    if (force == 0) & has_waiter(s, q) {
-        return 13;
+    if (force == 0) & has_waiter(s, K::FIRST + j) {
+        return Err(Refusal::StillNeeded);
     }
-    ending::end_all(s, 3, q);
-    0
+    Ok(j)
+}
+
+// Each of its waiters is let go, then the object goes, and the chain from its holder moves.
+pub fn delete<K: Object>(s: &mut Image, i: u32, force: u32) -> Answer
+    ensures { Served (object_delete_answer K.family i force (view s.old)) (chosen (object_delete K.family i (view s.old))) (number_of result) s.old s.new }
+{
+    let j = may_delete::<K>(s, i, force)?;
+    let holder = K::get_holder(s, j);
+    ending::end_all(s, ending::OBJECT_DELETED, K::FIRST + j);
+    K::clear(s, j);
+    walk::walk_from(s, holder);
+    moves::choose(s);
+    Ok(Done::Now)
 }

@@ -2,13 +2,13 @@
 // each call.
 #![tactic(auto)]
 
-ghost use Rattle.std.specs.Prelude.{◌≡◌, ◌+◌, ◌≤◌, length, IfOk};
-ghost use Rattle.table.specs.Image.{Image};
+ghost use Rattle.std.specs.Prelude.{◌≡◌, ◌+◌, ◌≤◌, List, ℕ, [], length, take, drop, IfOk};
 
 use std::env::FillError;
 use std::fs::File;
 use std::io;
 use std::io::{ErrorKind, Read, Stdin};
+use std::marker::Model;
 use std::process::ExitCode;
 use std::rt::Env;
 use streams::Output;
@@ -29,146 +29,110 @@ impl Read for Source {
     }
 }
 
-// How many bytes are left over of the input after a turn, at its start; whether to go on; whether the tape could be read; and what has become
-// of the output.
-#[derive(Clone, Copy)]
-struct Left {
-    bytes: usize,
-    more: bool,
-    is_read: bool,
-    output: Output,
+// Bytes of the tape that are read and not yet played.
+#[derive(Drop)]
+struct Input {
+    bytes: [u8; 4096],
+    held: usize,
 }
 
-// Reads behind the first `have` bytes of the input, and answers how many bytes came, 0 at the tape's end.
-fn read_more(
-    rt: &HostRuntime,
-    tape: &mut Source,
-    input: &mut [u8],
-    have: usize,
-) -> io::Result<usize>
-    requires { have ≤ length input.old }
-    ensures { IfOk result (λ n. have + n ≤ length input.old) }
-{
-    streams::read_some(rt, tape, &mut input[have..])
+impl Model for Input {
+    ghost Value = { List ℕ };
+
+    ghost view = { λ a. take a.held a.bytes };
+
+    ghost invariant = { λ a. a.held ≤ 4096 };
 }
 
-// Moves the bytes from `from` to `to` of the input to its start, and answers how many they are.
-fn keep(input: &mut [u8], from: usize, to: usize) -> usize
-    requires { (from ≤ to) × (to ≤ length input.old) }
-    ensures { result ≤ length input.old }
-{
-    input.copy_within(from..to, 0);
-    to - from
-}
-
-fn say_bad(output: Output) -> Output {
-    let mut line = [0u8; 4];
-    tape::write_bad(&mut line, 0);
-    output.say(&line)
-}
-
-// A tape that cannot be read on is not one that ends: what is left over is no cut call.
-fn break_off(rt: &HostRuntime, output: Output, why: io::Error) -> Left
-    ensures { result.bytes ≡ 0 }
-{
-    streams::fail(rt, "play: cannot read", why);
-    Left {
-        bytes: 0,
-        more: false,
-        is_read: false,
-        output,
-    }
-}
-
-// The input's end: bytes that are left over are a call that is cut.
-fn end_tape(output: Output, have: usize) -> Left
-    ensures { result.bytes ≡ 0 }
-{
-    let mut ended = output;
-    if 0 < have {
-        ended = say_bad(output);
-    }
-    Left {
-        bytes: 0,
-        more: false,
-        is_read: true,
-        output: ended,
-    }
-}
-
-// Plays the first `to` bytes of the input and prints their lines. A call takes a byte or more and its line 6 at most, so a buffer of 6
-// bytes for each of the input's has room for every line.
-fn play_some(
-    output: Output,
-    image: &mut [u8],
-    input: &mut [u8],
-    to: usize,
-    lines: &mut [u8],
-) -> Left
-    requires { Image image.old × (to ≤ length input.old) }
-    ensures { result.bytes ≤ length input.old }
-{
-    let part = player::play_part(image, &input[0..to], lines);
-    let read = part.read;
-    let written = part.written;
-    let ended = part.ended;
-    let mut printed = output.say(&lines[0..written]);
-    if ended {
-        printed = say_bad(printed);
-    }
-    let is_well = printed.is_well();
-    let bytes = keep(input, read, to);
-    Left {
-        bytes,
-        more: is_well & !ended,
-        is_read: true,
-        output: printed,
-    }
-}
-
-// One read, and what it brings played.
-fn turn(
-    rt: &HostRuntime,
-    tape: &mut Source,
-    output: Output,
-    image: &mut [u8],
-    input: &mut [u8],
-    have: usize,
-    lines: &mut [u8],
-) -> Left
-    requires { Image image.old × (have ≤ length input.old) }
-    ensures { result.bytes ≤ length input.old }
-{
-    match read_more(rt, tape, input, have) {
-        Ok(0) => end_tape(output, have),
-        Ok(n) => play_some(output, image, input, have + n, lines),
-        Err(e) => break_off(rt, output, e),
-    }
-}
-
-// A proved loop has to end, and nothing says that the input does: it has as many turns as no run uses up.
-fn play_all(
-    rt: &HostRuntime,
-    tape: &mut Source,
-    image: &mut [u8],
-    input: &mut [u8],
-    lines: &mut [u8],
-) -> Left
-    requires { Image image.old }
-{
-    let mut left = Left {
-        bytes: 0,
-        more: true,
-        is_read: true,
-        output: Output::start(rt),
-    };
-    for _ in 0..u64::MAX {
-        left = turn(rt, tape, left.output, image, input, left.bytes, lines);
-        if !left.more {
-            break;
+impl Input {
+    fn new() -> Input
+        ensures { result ≡ [] }
+    {
+        Input {
+            bytes: [0; 4096],
+            held: 0,
         }
     }
-    left
+
+    fn held(&self) -> &[u8]
+        ensures { result.now ≡ self.now }
+    {
+        &self.bytes[..self.held]
+    }
+
+    // Reads behind what is held, and answers how many bytes came, 0 at the tape's end.
+    fn fill(&mut self, rt: &HostRuntime, tape: &mut Source) -> io::Result<usize>
+        ensures { IfOk result (λ n. length self.new ≡ length self.old + n) }
+    {
+        let came = streams::read_some(rt, tape, &mut self.bytes[self.held..])?;
+        self.held += came;
+        Ok(came)
+    }
+
+    // Lets go of the first n bytes.
+    fn advance(&mut self, n: usize)
+        requires { n ≤ length self.old }
+        ensures { self.new ≡ drop n self.old }
+    {
+        self.bytes.copy_within(n..self.held, 0);
+        self.held -= n;
+    }
+}
+
+// A tape that is played, from the fresh table on. A call takes a byte or more and its line 6 at most, so 6 bytes for each of the input's are
+// room for every line.
+#[derive(Drop)]
+struct Player {
+    rt: HostRuntime,
+    tape: Source,
+    input: Input,
+    image: [u8; table::layout::IMAGE_SIZE],
+    lines: [u8; 24576],
+    output: Output,
+}
+
+impl Player {
+    fn start(rt: &HostRuntime, tape: Source) -> Player {
+        let mut image = [0u8; table::layout::IMAGE_SIZE];
+        table::fresh::write_fresh(&mut image);
+        Player {
+            rt: *rt,
+            tape,
+            input: Input::new(),
+            image,
+            lines: [0; 24576],
+            output: Output::start(rt),
+        }
+    }
+
+    // Plays the whole calls of the input and prints their lines, and answers whether a kind that the list lacks ends the tape.
+    fn play_held(&mut self) -> bool {
+        let part = player::play_part(&mut self.image, self.input.held(), &mut self.lines);
+        self.output = self.output.say(&self.lines[..part.written]);
+        self.input.advance(part.read);
+        part.ended
+    }
+
+    // Plays read by read to the tape's end, or until a write fails. A proved loop has to end, and nothing says that the input does: it has as
+    // many turns as no run uses up.
+    fn play_all(&mut self) -> io::Result<()> {
+        for _ in 0..u64::MAX {
+            let came = self.input.fill(&self.rt, &mut self.tape)?;
+            // At the end, bytes that are left over are a call that is cut.
+            let ends = if came == 0 {
+                !self.input.held().is_empty()
+            } else {
+                self.play_held()
+            };
+            if ends {
+                self.output = self.output.say(tape::BAD);
+            }
+            if ends | (came == 0) | !self.output.is_well() {
+                break;
+            }
+        }
+        Ok(())
+    }
 }
 
 // Opens the file of that name, or says why it cannot.
@@ -206,18 +170,15 @@ fn open_tape(rt: &HostRuntime) -> Option<Source> {
 }
 
 fn main(rt: HostRuntime) -> ExitCode {
-    let Some(mut tape) = open_tape(&rt) else {
+    let Some(tape) = open_tape(&rt) else {
         return ExitCode::FAILURE;
     };
-    let mut image = [0u8; table::layout::IMAGE_SIZE];
-    table::fresh::write_fresh(&mut image);
-    let mut input = [0u8; 4096];
-    let mut lines = [0u8; 24576];
-    let left = play_all(&rt, &mut tape, &mut image, &mut input, &mut lines);
-    let written = left.output.end("play: cannot write");
-    if left.is_read {
-        written
-    } else {
-        ExitCode::FAILURE
-    }
+    let mut player = Player::start(&rt, tape);
+    // A tape that cannot be read on is not one that ends: what is left over is no cut call.
+    let unread = player
+        .play_all()
+        .err()
+        .map(|why| streams::fail(&rt, "play: cannot read", why));
+    let written = player.output.end("play: cannot write");
+    unread.unwrap_or(written)
 }

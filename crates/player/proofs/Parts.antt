@@ -15,34 +15,37 @@ use Rattle.rules.specs.Tape.{line}
 use Rattle.rules.specs.declared.Call.{Call}
 use Rattle.table.specs.Image.{view}
 use Rattle.tape.specs.Line.{Wrote, pasted, pasted-after, pasted-nothing, line_of_lem, line-short}
-use Rattle.tape.specs.Next.{next_in}
+use Rattle.tape.specs.Next.{Next, whole, next_in}
 use Rattle.tape.specs.Play.{Played, stopped, behind, plays_on, plays, plays-full, plays_next}
 use Rattle.tape.specs.Prints.{whole-within}
-use Rattle.tape.specs.declared.Next.{Next}
-use Rattle.tape.specs.declared.Next.TheVariants.{Whole, Cut, NoKind, End}
-use Rattle.player.specs.declared.Turn.{Turn}
-use Rattle.player.specs.declared.Turn.TheVariants.{Went, Stopped, Ended}
-use Rattle.player.specs.Part.{Taken, Turned, Parted, part_of, taken_by, taken_at}
+use Rattle.tape.specs.declared.Stop.TheVariants.{Cut, NoKind, End}
+use Rattle.std.specs.Prelude.{Ok, Err}
+use Rattle.player.specs.declared.Went.{Went}
+use Rattle.player.specs.declared.Halt.{Halt}
+use Rattle.player.specs.declared.Halt.TheVariants.{Full, NoCall}
+use Rattle.player.specs.Part.{ends, Turn, went, Taken, Turned, Parted, part_of, taken_by, taken_at}
 use Rattle.player.proofs.Turns.{taken-full, taken_next}
 
 -- ---- what a turn says of the tape
 
 abbrev pub is_gone : Turn → Bool
-is_gone (Went n to) = true
-is_gone Stopped = false
-is_gone Ended = false
+is_gone (Ok w) = true
+is_gone (Err why) = false
 
-abbrev pub is_ended : Turn → Bool
-is_ended (Went n to) = false
-is_ended Stopped = false
-is_ended Ended = true
+went_in : Went → Turn → Went
+went_in other (Ok w) = w
+went_in other (Err why) = other
+
+why_in : Halt → Turn → Halt
+why_in other (Ok w) = other
+why_in other (Err why) = why
 
 -- A turn in which a call was made.
 record Gone (s l o : List ℕ) (end n to : ℕ) (s' o' : List ℕ) : Type 0 where
   pub call : Call
   pub interrupt : Bool
   pub room : 6 ≤ length o - end
-  pub whole : next_in l ≡ Whole call interrupt n
+  pub reads : next_in l ≡ whole call interrupt n
   pub table : view s' ≡ (serve call interrupt (view s)).table
   pub wrote : Wrote end (line (serve call interrupt (view s))) o o' to
 
@@ -53,39 +56,40 @@ record Idle (ended : Bool) (s l o : List ℕ) (end left : ℕ) (s' o' : List ℕ
   pub buffer : o' ≡ o
 
 module _ {s l o : List ℕ} {end : ℕ} {s' o' : List ℕ} where
-  module _ {n to : ℕ} (t : Turned s l o end (Went n to) s' o') where
+  module _ {n to : ℕ} (t : Turned s l o end (went n to) s' o') where
     never : {x : Taken} → taken_at (view s) end (length o - end) l ≡ x → is_gone x.turn ≡ false → Gone s l o end n to s' o'
     never e z = absurd (true≢false (ap is_gone t.turn ∙ ap (λ (x : Taken). is_gone x.turn) e ∙ z))
 
     gone_by : (b : Bool) → ltb (length o - end) 6 ≡ b → (x : Next) → next_in l ≡ x → Gone s l o end n to s' o'
-    unfolding taken_by
+    unfolding taken_by went_in
     gone_by true e x f = never (taken-full (view s) end (length o - end) l e) refl
-    gone_by false e Cut f = never (taken_next (view s) end (length o - end) l e f) refl
-    gone_by false e NoKind f = never (taken_next (view s) end (length o - end) l e f) refl
-    gone_by false e End f = never (taken_next (view s) end (length o - end) l e f) refl
-    gone_by false e (Whole c i m) f =
+    gone_by false e (Err why) f = never (taken_next (view s) end (length o - end) l e f) refl
+    gone_by false e (Ok w) f =
         let x = taken_next (view s) end (length o - end) l e f in
-        let same : Went n to ≡ Went m (end + length (line (serve c i (view s)))) = t.turn ∙ ap (λ (x : Taken). x.turn) x in
+        let same = ap (went_in (record { read = n; end = to })) (t.turn ∙ ap (λ (x : Taken). x.turn) x) in
         record {
-          call = c;
-          interrupt = i;
+          call = w.call;
+          interrupt = w.interrupt;
           room = ltb-false _ 6 e;
-          whole = cc;
+          reads = f ∙ ap (λ (m : ℕ). whole w.call w.interrupt m) (sym (ap (λ (w : Went). w.read) same));
           table = t.table ∙ ap (λ (x : Taken). x.table) x;
-          wrote = record { list = t.buffer ∙ ap (λ (x : Taken). pasted end x.text o) x; ends = cc };
+          wrote = record { list = t.buffer ∙ ap (λ (x : Taken). pasted end x.text o) x; ends = ap (λ (w : Went). w.end) same };
         }
 
     gone : Gone s l o end n to s' o'
     gone = gone_by (ltb (length o - end) 6) refl (next_in l) refl
 
-  module _ {r : Turn} (left : ℕ) (some : 0 < left) (t : Turned s l o end r s' o') where
-    stays : {x : Taken} → taken_at (view s) end (length o - end) l ≡ x → plays serve left (length o - end) (view s) l ≡ stopped (is_ended x.turn) (view s) l
-        → x.table ≡ view s → o ≡ pasted end x.text o → Idle (is_ended r) s l o end left s' o'
-    stays e stops table text = record {
-      stops = rw (t.turn, e) stops;
-      table = t.table ∙ ap (λ (x : Taken). x.table) e ∙ table;
-      buffer = t.buffer ∙ ap (λ (x : Taken). pasted end x.text o) e ∙ sym text;
-    }
+  module _ {why : Halt} (left : ℕ) (some : 0 < left) (t : Turned s l o end (Err why) s' o') where
+    stays : {x : Taken} (h : Halt) → taken_at (view s) end (length o - end) l ≡ x → x.turn ≡ Err h → plays serve left (length o - end) (view s) l ≡ stopped (ends h) (view s) l
+        → x.table ≡ view s → o ≡ pasted end x.text o → Idle (ends why) s l o end left s' o'
+    unfolding why_in
+    stays h e turn stops table text =
+        let same : why ≡ h = ap (why_in h) (t.turn ∙ ap (λ (x : Taken). x.turn) e ∙ turn) in
+        record {
+          stops = rw same stops;
+          table = t.table ∙ ap (λ (x : Taken). x.table) e ∙ table;
+          buffer = t.buffer ∙ ap (λ (x : Taken). pasted end x.text o) e ∙ sym text;
+        }
 
     stops_by : {x : Next} → ltb (length o - end) 6 ≡ false → next_in l ≡ x → (ended : Bool) → ((on : Outcome → ℕ → Played) → plays_on serve (view s) l on x ≡ stopped ended (view s) l)
         → plays serve left (length o - end) (view s) l ≡ stopped ended (view s) l
@@ -93,16 +97,16 @@ module _ {s l o : List ℕ} {end : ℕ} {s' o' : List ℕ} where
         let n : left ≡ suc (left - 1) = omega arith in
         ap (λ k. plays serve k (length o - end) (view s) l) n ∙ plays_next serve (left - 1) (length o - end) (view s) l (ltb-false _ 6 e) ∙ ap (plays_on serve (view s) l _) f ∙ h _
 
-    idle_by : is_gone r ≡ false → (b : Bool) → ltb (length o - end) 6 ≡ b → (x : Next) → next_in l ≡ x → Idle (is_ended r) s l o end left s' o'
+    idle_by : (b : Bool) → ltb (length o - end) 6 ≡ b → (x : Next) → next_in l ≡ x → Idle (ends why) s l o end left s' o'
     unfolding taken_by plays_on
-    idle_by z true e x f = stays (taken-full (view s) end (length o - end) l e) (plays-full serve left _ (view s) l (ltb-true _ 6 e)) refl (pasted-nothing end o)
-    idle_by z false e Cut f = stays (taken_next (view s) end (length o - end) l e f) (stops_by e f false (λ on. refl)) refl (pasted-nothing end o)
-    idle_by z false e NoKind f = stays (taken_next (view s) end (length o - end) l e f) (stops_by e f true (λ on. refl)) refl (pasted-nothing end o)
-    idle_by z false e End f = stays (taken_next (view s) end (length o - end) l e f) (stops_by e f false (λ on. refl)) refl (pasted-nothing end o)
-    idle_by z false e (Whole c i m) f = absurd (true≢false (sym (ap is_gone t.turn ∙ ap (λ (x : Taken). is_gone x.turn) (taken_next (view s) end (length o - end) l e f)) ∙ z))
+    idle_by true e x f = stays Full (taken-full (view s) end (length o - end) l e) refl (plays-full serve left _ (view s) l (ltb-true _ 6 e)) refl (pasted-nothing end o)
+    idle_by false e (Err Cut) f = stays (NoCall Cut) (taken_next (view s) end (length o - end) l e f) refl (stops_by e f false (λ on. refl)) refl (pasted-nothing end o)
+    idle_by false e (Err NoKind) f = stays (NoCall NoKind) (taken_next (view s) end (length o - end) l e f) refl (stops_by e f true (λ on. refl)) refl (pasted-nothing end o)
+    idle_by false e (Err End) f = stays (NoCall End) (taken_next (view s) end (length o - end) l e f) refl (stops_by e f false (λ on. refl)) refl (pasted-nothing end o)
+    idle_by false e (Ok w) f = absurd (true≢false (sym (ap is_gone (t.turn ∙ ap (λ (x : Taken). x.turn) (taken_next (view s) end (length o - end) l e f)))))
 
-    idle : is_gone r ≡ false → Idle (is_ended r) s l o end left s' o'
-    idle z = idle_by z (ltb (length o - end) 6) refl (next_in l) refl
+    idle : Idle (ends why) s l o end left s' o'
+    idle = idle_by (ltb (length o - end) 6) refl (next_in l) refl
 
 -- ---- the loop
 
@@ -111,10 +115,10 @@ pub record Going (s₀ l o₀ s o : List ℕ) (at end left : ℕ) : Type 0 where
   pub part : part_of s₀ l o₀ ≡ behind (take end o) (plays serve left (length o - end) (view s) (drop at l))
   pub buffer : o ≡ pasted 0 (take end o) o₀
 
-pub going_start : (s l o : List ℕ) → Going s l o s o 0 0 (length l)
-going_start s l o = record { part = rw (sub-zero (length o)); buffer = pasted-nothing 0 o }
+pub going_from : (s l o : List ℕ) → Going s l o s o 0 0 (length l - 0)
+going_from s l o = record { part = rw (sub-zero (length l), sub-zero (length o)); buffer = pasted-nothing 0 o }
 
-plays-call : (k room : ℕ) (t : Table) (l : List ℕ) {c : Call} {i : Bool} {n : ℕ} → 6 ≤ room → next_in l ≡ Whole c i n
+plays-call : (k room : ℕ) (t : Table) (l : List ℕ) {c : Call} {i : Bool} {n : ℕ} → 6 ≤ room → next_in l ≡ whole c i n
     → let o = serve c i t in plays serve (suc k) room t l ≡ behind (line o) (plays serve k (room - length (line o)) o.table (drop n l))
 unfolding plays_on
 plays-call k room t l h e = plays_next serve k room t l h ∙ ap (plays_on serve t l (λ o m. behind (line o) (plays serve k (room - length (line o)) o.table (drop m l)))) e
@@ -134,15 +138,15 @@ rest_turn s l o at end r s' o' t e =
     (subst (λ (x : List ℕ). Turned s x o end r s' o') (take_all (length l - at) (drop at l) (simp length-drop (omega arith))) t)
 
 -- Where a call was made, there is no more read and written than there is.
-pub gone-within : {s l o : List ℕ} {end n to : ℕ} {s' o' : List ℕ} → Turned s l o end (Went n to) s' o' → (n ≤ length l) × (to ≤ length o)
+pub gone-within : {s l o : List ℕ} {end n to : ℕ} {s' o' : List ℕ} → Turned s l o end (went n to) s' o' → (n ≤ length l) × (to ≤ length o)
 gone-within {s = s} {l} t =
     let g = gone t in
     let out = serve g.call g.interrupt (view s) in
     let short : length (line out) ≤ 6 = rw (line_of_lem out) (line-short _ _) in
-    ((whole-within l g.whole).1, omega (arith, g.room, g.wrote.ends))
+    ((whole-within l g.reads).1, omega (arith, g.room, g.wrote.ends))
 
 pub going_on : {s₀ l o₀ s o : List ℕ} {at end left n to : ℕ} {s' o' : List ℕ} → Going s₀ l o₀ s o at end left → end ≤ length o → length o' ≡ length o → 0 < left
-    → Turned s (drop at l) o end (Went n to) s' o' → Going s₀ l o₀ s' o' (at + n) to (left - 1)
+    → Turned s (drop at l) o end (went n to) s' o' → Going s₀ l o₀ s' o' (at + n) to (left - 1)
 going_on {l = l} {o₀} {s} {o} {at} {end} {left} {n} {to} {s'} {o'} g fits same some t =
     let x = gone t in
     let out = serve x.call x.interrupt (view s) in
@@ -151,7 +155,7 @@ going_on {l = l} {o₀} {s} {o} {at} {end} {left} {n} {to} {s'} {o'} g fits same
     ap (λ j. take j o') x.wrote.ends ∙ ap (take (end + length (line out))) x.wrote.list ∙ pasted_front end (line out) o fits in
     let room : length o - end - length (line out) ≡ length o' - to = omega (arith, x.wrote.ends) in
     let zero-on : 0 + length (take end o) ≡ end = omega (arith, length-take-le end o fits) in
-    let turn = plays-call (left - 1) (length o - end) (view s) (drop at l) x.room x.whole in
+    let turn = plays-call (left - 1) (length o - end) (view s) (drop at l) x.room x.reads in
     record {
       part = rw (front, ← room, x.table, ← drop-drop n at l, ← behind-behind (take end o) (line out) (plays serve (left - 1) (length o - end - length (line out)) out.table (drop n (drop at l)))) (g.part ∙ ap (λ j. behind (take end o) (plays serve j (length o - end) (view s) (drop at l))) k ∙ ap (behind (take end o)) turn);
       buffer = rw front (x.wrote.list ∙ ap (pasted end (line out)) g.buffer ∙ ap (λ j. pasted j (line out) (pasted 0 (take end o) o₀)) (sym zero-on) ∙ pasted-after 0 (take end o) (line out) o₀ (omega arith));
@@ -172,11 +176,11 @@ finished {s₀ = s₀} {l} {o₀} {s} {o} {at} {end} {left} {ended} g within fit
     }
 
 -- Where no call was made, the part is played.
-pub going_stops : {s₀ l o₀ s o : List ℕ} {at end left : ℕ} {r : Turn} {s' o' : List ℕ} → Going s₀ l o₀ s o at end left → at ≤ length l → end ≤ length o → 0 < left
-    → Turned s (drop at l) o end r s' o' → is_gone r ≡ false → Parted s₀ l o₀ at end (is_ended r) s' o'
-going_stops {s₀ = s₀} {l} {o₀} {s} {o} {at} {end} {left} {r} {s'} {o'} g within fits some t z =
-    let i = idle left some t z in
-    let p : Parted s₀ l o₀ at end (is_ended r) s o = finished g within fits i.stops in
+pub going_stops : {s₀ l o₀ s o : List ℕ} {at end left : ℕ} {why : Halt} {s' o' : List ℕ} → Going s₀ l o₀ s o at end left → at ≤ length l → end ≤ length o → 0 < left
+    → Turned s (drop at l) o end (Err why) s' o' → Parted s₀ l o₀ at end (ends why) s' o'
+going_stops {s₀ = s₀} {l} {o₀} {s} {o} {at} {end} {left} {why} {s'} {o'} g within fits some t =
+    let i = idle left some t in
+    let p : Parted s₀ l o₀ at end (ends why) s o = finished g within fits i.stops in
     record { reads = p.reads; writes = p.writes; ends = p.ends; table = i.table ∙ p.table; buffer = i.buffer ∙ p.buffer }
 
 -- And where no turn is left.

@@ -14,12 +14,11 @@ use Rattle.table.specs.Image.{view}
 use Rattle.service.specs.Served.{Served}
 use Rattle.service.specs.Told.{Told, answer_in}
 use Rattle.tape.specs.Line.{Wrote, line_in, line_in_lem, line_of_lem, pasted-nothing}
-use Rattle.tape.specs.Next.{next_in}
-use Rattle.tape.specs.declared.Next.{Next}
-use Rattle.tape.specs.declared.Next.TheVariants.{Whole}
-use Rattle.player.specs.declared.Turn.{Turn}
-use Rattle.player.specs.declared.Turn.TheVariants.{Went, Stopped}
-use Rattle.player.specs.Part.{Turned, quiet, taken_by, taken_at}
+use Rattle.tape.specs.Next.{Next, whole, next_in}
+use Rattle.player.specs.declared.Halt.{Halt}
+use Rattle.player.specs.declared.Halt.TheVariants.{Full}
+use Rattle.std.specs.Prelude.{Err}
+use Rattle.player.specs.Part.{Turned, went, quiet, taken_by, taken_at}
 
 -- ---- a call served
 
@@ -41,7 +40,7 @@ served-answer c i t = refl
 
 -- ---- what a turn comes to
 
-pub taken-full : (t : Table) (end room : ℕ) (l : List ℕ) → ltb room 6 ≡ true → taken_at t end room l ≡ quiet Stopped t
+pub taken-full : (t : Table) (end room : ℕ) (l : List ℕ) → ltb room 6 ≡ true → taken_at t end room l ≡ quiet Full t
 unfolding taken_at
 taken-full t end room l e = rw e
 
@@ -49,21 +48,21 @@ pub taken_next : (t : Table) (end room : ℕ) (l : List ℕ) {x : Next} → ltb 
 unfolding taken_at
 taken_next t end room l e f = rw (e, f)
 
-quiet_turn : (s l o : List ℕ) (end : ℕ) (r : Turn) → taken_at (view s) end (length o - end) l ≡ quiet r (view s) → Turned s l o end r s o
+quiet_turn : (s l o : List ℕ) (end : ℕ) (r : Halt) → taken_at (view s) end (length o - end) l ≡ quiet r (view s) → Turned s l o end (Err r) s o
 quiet_turn s l o end r e = record {
   turn = sym (ap (λ x. x.turn) e);
   table = sym (ap (λ x. x.table) e);
   buffer = rw e (pasted-nothing end o);
 }
 
-pub full_turn : (s l o : List ℕ) (end : ℕ) → length o - end < 6 → Turned s l o end Stopped s o
-full_turn s l o end h = quiet_turn s l o end Stopped (taken-full (view s) end (length o - end) l (lt-ltb _ 6 h))
+pub full_turn : (s l o : List ℕ) (end : ℕ) → length o - end < 6 → Turned s l o end (Err Full) s o
+full_turn s l o end h = quiet_turn s l o end Full (taken-full (view s) end (length o - end) l (lt-ltb _ 6 h))
 
-pub idle_turn : (s l o : List ℕ) (end : ℕ) (r : Turn) → 6 ≤ length o - end → taken_by (view s) end (next_in l) ≡ quiet r (view s) → Turned s l o end r s o
+pub idle_turn : (s l o : List ℕ) (end : ℕ) (r : Halt) → 6 ≤ length o - end → taken_by (view s) end (next_in l) ≡ quiet r (view s) → Turned s l o end (Err r) s o
 idle_turn s l o end r h e = quiet_turn s l o end r (taken_next (view s) end (length o - end) l (le-ltb _ 6 h) refl ∙ e)
 
-pub call_turn : (s l o s' o' : List ℕ) (end : ℕ) {c : Call} {i : Bool} {n a runs to : ℕ} → 6 ≤ length o - end → next_in l ≡ Whole c i n
-    → Told (answer c i (view s)) (effect c (view s)) (told_by c (view s)) a s s' → runs ≡ (view s').running → Wrote end (line_in (answer_in a) runs (length o - end)) o o' to → Turned s l o end (Went n to) s' o'
+pub call_turn : (s l o s' o' : List ℕ) (end : ℕ) {c : Call} {i : Bool} {n a runs to : ℕ} → 6 ≤ length o - end → next_in l ≡ whole c i n
+    → Told (answer c i (view s)) (effect c (view s)) (told_by c (view s)) a s s' → runs ≡ (view s').running → Wrote end (line_in (answer_in a) runs (length o - end)) o o' to → Turned s l o end (went n to) s' o'
 unfolding taken_by
 call_turn s l o s' o' end {c} {i} {n} {a} {runs} {to} h e told run wrote =
     let served = told.served in
@@ -72,7 +71,7 @@ call_turn s l o s' o' end {c} {i} {n} {a} {runs} {to} h e told run wrote =
     let after = served-table c i (answer_in a) s s' served in
     let text : line_in (answer_in a) runs (length o - end) ≡ line out = cc (line_in_lem (answer_in a) runs (length o - end) h, line_of_lem out, served.says, after, served-runs c i (view s), served-answer c i (view s)) in
     record {
-      turn = rw x (ap (Went n) (wrote.ends ∙ ap (λ (q : List ℕ). end + length q) text));
+      turn = rw x (ap (went n) (wrote.ends ∙ ap (λ (q : List ℕ). end + length q) text));
       table = rw x after;
       buffer = rw x (rw (← text) wrote.list);
     }

@@ -1,5 +1,5 @@
 -- One turn of playing a tape, and a part of a tape played.
-use Rattle.std.specs.Prelude.{◌≡◌, Bool, cond, List, [], ℕ, ◌+◌, ◌-◌, ◌≤◌, ltb, length}
+use Rattle.std.specs.Prelude.{true, false, Result, Ok, Err, ◌≡◌, Bool, cond, List, [], ℕ, ◌+◌, ◌-◌, ◌≤◌, ltb, length}
 use Rattle.std.proofs.Common.{sym, ap, ◌∙◌, arith, length-append}
 use Rattle.rules.specs.Table.{Table}
 use Rattle.rules.specs.Step.{serve}
@@ -7,12 +7,26 @@ use Rattle.rules.specs.Tape.{Bytes, line}
 use Rattle.table.specs.Image.{Image, view}
 use Rattle.table.specs.Written.{lossless}
 use Rattle.tape.specs.Line.{pasted}
-use Rattle.tape.specs.Next.{next_in}
+use Rattle.tape.specs.Next.{Next, next_in}
 use Rattle.tape.specs.Play.{Played, plays}
-use Rattle.tape.specs.declared.Next.{Next}
-use Rattle.tape.specs.declared.Next.TheVariants.{Whole, Cut, NoKind, End}
-use Rattle.player.specs.declared.Turn.{Turn}
-use Rattle.player.specs.declared.Turn.TheVariants.{Went, Stopped, Ended}
+use Rattle.tape.specs.declared.Stop.TheVariants.{Cut, NoKind, End}
+use Rattle.player.specs.declared.Went.{Went}
+use Rattle.player.specs.declared.Halt.{Halt}
+use Rattle.player.specs.declared.Halt.TheVariants.{Full, NoCall}
+
+-- A call that was made, or why none was.
+abbrev pub Turn : Type 0
+Turn = Result Went Halt
+
+abbrev pub went : (read end : ℕ) → Turn
+went read end = Ok (record { read = read; end = end })
+
+-- Whether the list lacks the kind.
+abbrev pub ends : Halt → Bool
+ends Full = false
+ends (NoCall End) = false
+ends (NoCall Cut) = false
+ends (NoCall NoKind) = true
 
 -- What a turn answers, the table that it leaves, and the text that it writes.
 pub record Taken : Type 0 where
@@ -20,20 +34,18 @@ pub record Taken : Type 0 where
   pub table : Table
   pub text : List ℕ
 
-abbrev pub quiet : Turn → Table → Taken
-quiet turn t = record { turn = turn; table = t; text = [] }
+abbrev pub quiet : Halt → Table → Taken
+quiet why t = record { turn = Err why; table = t; text = [] }
 
 -- The line of a call ends behind `end`.
 unfoldable pub taken_by : Table → ℕ → Next → Taken
-taken_by t end (Whole c interrupt n) =
-    let o = serve c interrupt t in
-    record { turn = Went n (end + length (line o)); table = o.table; text = line o }
-taken_by t end Cut = quiet Stopped t
-taken_by t end NoKind = quiet Ended t
-taken_by t end End = quiet Stopped t
+taken_by t end (Ok w) =
+    let o = serve w.call w.interrupt t in
+    record { turn = went w.length (end + length (line o)); table = o.table; text = line o }
+taken_by t end (Err why) = quiet (NoCall why) t
 
 unfoldable pub taken_at : Table → (end room : ℕ) → List ℕ → Taken
-taken_at t end room l = let taken = taken_by t end (next_in l) in cond (ltb room 6) (quiet Stopped t) taken
+taken_at t end room l = let taken = taken_by t end (next_in l) in cond (ltb room 6) (quiet Full t) taken
 
 -- One turn from the table in the bytes s, the tape l and the buffer o, to the bytes s' and the buffer o'.
 pub record Turned (s l o : List ℕ) (end : ℕ) (r : Turn) (s' o' : List ℕ) : Type 0 where

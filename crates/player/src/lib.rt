@@ -1,20 +1,49 @@
 // A part of a tape played from a table into a buffer.
 #![tactic(auto)]
 
-ghost use Rattle.std.specs.Prelude.{◌≤◌, length};
-ghost use Rattle.table.specs.Image.{Image};
-ghost use Rattle.player.specs.Part.{Turned, Parted};
+ghost use Rattle.std.specs.Prelude.{◌≡◌, ◌≤◌, length};
+ghost use Rattle.player.specs.Part.{ends, Turned, Parted};
+ghost use Rattle.player.specs.declared.Halt.TheVariants.{NoCall};
 
-// What one turn came to: a call was made and its line written, with how many bytes of the tape it took and where the line ends; there was
-// no whole call, or no room for a line; or there was a kind that the list lacks.
+use table::layout::Image;
+use tape::Stop;
+
+// A call that was made: how many bytes of the tape it took, and where its line ends.
 #[derive(Clone, Copy)]
-pub enum Turn {
-    Went(usize, usize),
-    Stopped,
-    Ended,
+pub struct Went {
+    pub read: usize,
+    pub end: usize,
 }
 
-// How many bytes of the tape were read, how many of text were written, and whether a kind that the list lacks ended it.
+// Why none was: there is no room for a line, or no whole call.
+#[derive(Clone, Copy)]
+pub enum Halt {
+    Full,
+    NoCall(Stop),
+}
+
+impl Halt {
+    // Whether it is a kind that the list lacks.
+    fn ends(self) -> bool
+        ensures { result ≡ ends self }
+    {
+        match self {
+            Halt::NoCall(Stop::NoKind) => true,
+            Halt::NoCall(Stop::Cut | Stop::End) | Halt::Full => false,
+        }
+    }
+}
+
+impl From<Stop> for Halt {
+    ghost from_gives = { λ why halt. halt ≡ NoCall why };
+
+    fn from(why: Stop) -> Halt {
+        Halt::NoCall(why)
+    }
+}
+
+// How many bytes of the tape were read, how many of text were written, and whether a kind that the list lacks ended it: no error, as the numbers
+// hold either way.
 #[derive(Clone, Copy)]
 pub struct Part {
     pub read: usize,
@@ -23,63 +52,47 @@ pub struct Part {
 }
 
 // One call from the start of `tape`, its line at `end` of `out`.
-fn play_one(image: &mut [u8], tape: &[u8], out: &mut [u8], end: usize) -> Turn
-    requires { (end ≤ length out.old) × Image image.old }
+fn play_one(image: &mut Image, tape: &[u8], out: &mut [u8], end: usize) -> Result<Went, Halt>
+    requires { end ≤ length out.old }
     ensures { Turned image.old tape.now out.old end result image.new out.new }
 {
     if out.len() - end < 6 {
-        return Turn::Stopped;
+        return Err(Halt::Full);
     }
-    let next = tape::read_call(tape);
-    match next {
-        tape::Next::Whole(c, interrupt, n) => {
-            let told = calls::serve(image, c, interrupt);
-            let answer = (told % 65536) as u8;
-            let runs = table::numbers::get_running(image);
-            let to = tape::write_line(out, end, answer, runs);
-            Turn::Went(n, to)
-        }
-        tape::Next::Cut => Turn::Stopped,
-        tape::Next::NoKind => Turn::Ended,
-        tape::Next::End => Turn::Stopped,
-    }
+    let whole = tape::read_call(tape)?;
+    let told = calls::serve(image, whole.call, whole.interrupt);
+    let answer = (told % 65536) as u8;
+    let runs = table::numbers::get_running(image);
+    Ok(Went {
+        read: whole.length,
+        end: tape::write_line(out, end, answer, runs),
+    })
 }
 
 // The whole calls from the start of `tape`, as long as 6 bytes are left of `out` for a line.
-pub fn play_part(image: &mut [u8], tape: &[u8], out: &mut [u8]) -> Part
-    requires { Image image.old }
+pub fn play_part(image: &mut Image, tape: &[u8], out: &mut [u8]) -> Part
     ensures { Parted image.old tape.now out.old result.read result.written result.ended image.new out.new }
 {
-    let mut at = 0;
-    let mut end = 0;
-    let mut left = tape.len();
-    while 0 < left {
-        let turn = play_one(image, &tape[at..], out, end);
-        match turn {
-            Turn::Went(n, to) => {
-                at += n;
-                end = to;
+    let mut read = 0;
+    let mut written = 0;
+    for _ in 0..tape.len() {
+        match play_one(image, &tape[read..], out, written) {
+            Ok(went) => {
+                read += went.read;
+                written = went.end;
             }
-            Turn::Stopped => {
+            Err(why) => {
                 return Part {
-                    read: at,
-                    written: end,
-                    ended: false,
-                };
-            }
-            Turn::Ended => {
-                return Part {
-                    read: at,
-                    written: end,
-                    ended: true,
+                    read,
+                    written,
+                    ended: why.ends(),
                 };
             }
         }
-        left -= 1;
     }
     Part {
-        read: at,
-        written: end,
+        read,
+        written,
         ended: false,
     }
 }

@@ -1,23 +1,20 @@
 -- What each way through the port gives.
 use mathlib.Core.Path.{◌≡◌, refl, sym, ap, subst, ◌∙◌}
 use mathlib.Core.Bool.{Bool, true, false, cond, not, ◌&&◌, true≢false}
-use mathlib.Core.List.{List, ◌++◌, append-nil}
+use mathlib.Core.List.{List}
 use mathlib.Core.Logic.{◌⊎◌, inl, inr}
 use Prim.Native.Nat.{ℕ}
 use native.Mathlib.Omega.{arith}
-use lib.ListN.{length, take, drop}
-use lib.Seq.{take-length, drop-length}
+use lib.ListN.{length}
 use borrow.Author.Tests.{eq-eqb, ne_eqb}
 use Rattle.rules.specs.Sizes.{done, beyond_range, by_interrupt, not_sound}
 use Rattle.rules.specs.Table.{Table, fresh_table}
 use Rattle.rules.specs.Step.{Outcome, for_interrupts, answer_to, answer, effect, told_by, serve, unsound, changes}
-use Rattle.rules.specs.Kinds.{is_interrupt, plain_kind, reading}
+use Rattle.rules.specs.Kinds.{says_none, is_interrupt, plain_kind, reading}
 use Rattle.rules.specs.declared.Call.{Call}
 use Rattle.rules.specs.declared.Reading.{Reading}
-use Rattle.rules.specs.declared.Reading.TheVariants.{Says, Unknown}
-use Rattle.kinds.specs.declared.Row.{Row}
-use Rattle.kinds.specs.declared.Row.TheVariants.{Has, Lacks}
-use Rattle.kinds.specs.Row.{row_of}
+use Rattle.kinds.specs.Row.{Row, row_of}
+use Rattle.std.specs.Prelude.{Option, Some, None}
 use Rattle.kinds.specs.Interrupts.{may_make, barred, let_in, Agrees, reading-agrees, let_in_has, let_in_lacks}
 use Rattle.laws.specs.keeps.Sounds.{fresh-sound}
 use Rattle.table.specs.Image.{Image, image_size, view, image_of}
@@ -39,16 +36,16 @@ pub plain_by : {r q : Reading} (t : Table) → r ≡ q → plainly r t ≡ plain
 plain_by t e = ap (λ (z : Reading). plainly z t) e
 
 -- The row that was found, and the answer.
-pub row_by : (kind : ℕ) (numbers : List ℕ) {k : ℕ} {row x : Row} → k ≡ let_in kind → row ≡ row_of k numbers → row ≡ x → row_of (let_in kind) numbers ≡ x
+pub row_by : (kind : ℕ) (numbers : List ℕ) {k : ℕ} {row x : Option Row} → k ≡ let_in kind → row ≡ row_of k numbers → row ≡ x → row_of (let_in kind) numbers ≡ x
 row_by kind numbers e f g = ap (λ (z : ℕ). row_of z numbers) (sym e) ∙ sym f ∙ g
 
 pub answer_by : {b i : Bool} {x : ℕ} → b ≡ i → x ≡ cond b by_interrupt beyond_range → x ≡ cond i by_interrupt beyond_range
 answer_by e f = f ∙ ap (λ (z : Bool). cond z by_interrupt beyond_range) e
 
 -- A damaged table or a wrong length.
-pub gives-unsound : (l : List ℕ) {x v k : ℕ} → x ≡ not_sound → v ≡ 0 → k ≡ 0 → Gives (unsound (view l)) l x v k l
+pub gives-unsound : {l m : List ℕ} {x v k : ℕ} → x ≡ not_sound → v ≡ 0 → k ≡ 0 → m ≡ l → Gives (unsound (view l)) l x v k m
 unfolding bytes_after
-gives-unsound l e f d = record { answer = e; runs = f; further = d; bytes = refl }
+gives-unsound e f d b = record { answer = e; runs = f; further = d; bytes = b }
 
 -- A refusal with 5 or 1.
 refusal : Bool → Table → Outcome
@@ -62,18 +59,21 @@ gives-refusal false l e f = record { answer = omega arith; runs = f; further = o
 -- A call that an interrupt makes and may not make, also where the list lacks the kind.
 said-barred : (interrupt may : Bool) (t : Table) (r : Reading) → Agrees interrupt may r → (interrupt && not may) ≡ true → plainly r t ≡ refusal interrupt t
 unfolding refusal plainly serve answer
-said-barred true may t (Says c i) (e, f) h = let g : (i && not (for_interrupts c)) ≡ true = (λ x. e x && not (sym f x)) ∙ h in rw g
-said-barred true may t (Unknown i) (e, f) h = ap (λ (b : Bool). plainly (Unknown b) t) e
 said-barred false may t r a h = absurd (true≢false (sym h))
+said-barred true may t r a h = go r.call r.interrupt a
+  where
+    go : (call : Option Call) (i : Bool) → let said : Reading = record { call = call; interrupt = i } in Agrees true may said → plainly said t ≡ refusal true t
+    go (Some c) i (e, f) = let g : (i && not (for_interrupts c)) ≡ true = (λ x. e x && not (sym f x)) ∙ h in rw g
+    go None i (e, f) = ap (λ (b : Bool). plainly (says_none b) t) e
 
 -- A call that is not let in.
 module _ (kind : ℕ) (numbers : List ℕ) (l : List ℕ) where
-  refused : (barred kind ≡ true) ⊎ (reading kind numbers ≡ Unknown (is_interrupt kind)) → plainly (reading kind numbers) (view l) ≡ refusal (is_interrupt kind) (view l)
+  refused : (barred kind ≡ true) ⊎ (reading kind numbers ≡ says_none (is_interrupt kind)) → plainly (reading kind numbers) (view l) ≡ refusal (is_interrupt kind) (view l)
   unfolding refusal plainly barred
   refused (inl e) = said-barred (is_interrupt kind) (may_make (plain_kind kind)) (view l) (reading kind numbers) (reading-agrees kind numbers) e
   refused (inr e) = plain_by (view l) e
 
-  pub gives_lacking : {x v : ℕ} → row_of (let_in kind) numbers ≡ Lacks → x ≡ cond (is_interrupt kind) by_interrupt beyond_range → v ≡ (view l).running
+  pub gives_lacking : {x v : ℕ} → row_of (let_in kind) numbers ≡ None → x ≡ cond (is_interrupt kind) by_interrupt beyond_range → v ≡ (view l).running
       → Gives (plainly (reading kind numbers) (view l)) l (answer_in x) v (further_in x) l
   gives_lacking e f g = gives_by (refused (let_in_lacks kind numbers e)) (gives-refusal (is_interrupt kind) l f g)
 
@@ -107,7 +107,7 @@ module _ (c : Call) (interrupt : Bool) (l m : List ℕ) {n : ℕ} (image : Image
       }
 
 -- A call that is let in.
-pub gives_let_in : (kind : ℕ) (numbers l m : List ℕ) {c : Call} {w n v : ℕ} → Image m → Bytes m → row_of (let_in kind) numbers ≡ Has c w → Told (answer_to c (view l)) (effect c (view l)) (told_by c (view l)) n l m
+pub gives_let_in : (kind : ℕ) (numbers l m : List ℕ) {c : Call} {w n v : ℕ} → Image m → Bytes m → row_of (let_in kind) numbers ≡ Some (c, w) → Told (answer_to c (view l)) (effect c (view l)) (told_by c (view l)) n l m
     → v ≡ (view m).running → Gives (plainly (reading kind numbers) (view l)) l (answer_in n) v (further_in n) m
 unfolding plainly
 gives_let_in kind numbers l m {c} image bytes e s g =
@@ -124,18 +124,8 @@ fresh_right {l} {m} h image bytes e =
     let f = eq-eqb (length l) image_size h in
     record { answer = rw f; bytes = rw f (one_image fresh-sound m image bytes e) }
 
--- ---- an image lent by its length
+-- ---- a slice as an image
 
-module _ (l : List ℕ) (n : ℕ) (h : length l ≡ n) where
-  -- The part that is lent is the whole,
-  lent-whole : take n l ≡ l
-  lent-whole = ap (λ (k : ℕ). take k l) (sym h) ∙ take-length l
-
-  -- and what comes back is what it was left as.
-  back_whole : (m : List ℕ) → m ++ drop n l ≡ m
-  back_whole m = ap (λ (k : ℕ). m ++ drop k l) (sym h) ∙ ap (λ (z : List ℕ). m ++ z) (drop-length l) ∙ append-nil m
-
-  pub gives-lent : (r : Reading) (m : List ℕ) {x k : ℕ} → Gives (plainly r (view (take n l))) (take n l) x (view m).running k m
-      → Gives (plainly r (view l)) l x (view (m ++ drop n l)).running k (m ++ drop n l)
-  gives-lent r m {x} {k} g = subst (λ (z : List ℕ). Gives (plainly r (view l)) l x (view z).running k z) (sym (back_whole m))
-      (subst (λ (z : List ℕ). Gives (plainly r (view z)) z x (view m).running k m) lent-whole g)
+-- The bytes that the slice has and those of the image are one list.
+pub gives_along : (rule : Table → Outcome) {l s m : List ℕ} {x v k : ℕ} → s ≡ l → Gives (rule (view s)) s x v k m → Gives (rule (view l)) l x v k m
+gives_along rule {m = m} {x} {v} {k} e g = subst (λ (z : List ℕ). Gives (rule (view z)) z x v k m) e g

@@ -1,5 +1,5 @@
 -- The bytes follow the rules, and 15 is answered exactly where they are no image of a sound table: what `ByteTheorem` states.
-use Rattle.std.specs.Prelude.{◌≡◌, refl, ◌≢◌, Bool, true, false, cond, List, [], ◌∷◌, ◌++◌, ℕ, length}
+use Rattle.std.specs.Prelude.{◌≡◌, Option, Some, None, refl, ◌≢◌, Bool, true, false, cond, List, [], ◌∷◌, ◌++◌, ℕ, length}
 use Rattle.std.proofs.Common.{sym, subst, ◌∙◌, inl, inr, true≢false, arith, eq-eqb}
 use Rattle.std.proofs.Math.Path.{ap}
 use Rattle.std.proofs.Math.Decide.{ℕ_discrete}
@@ -8,11 +8,11 @@ use Rattle.rules.specs.Table.{Table}
 use Rattle.rules.specs.Sound.{Sound, is_sound}
 use Rattle.rules.proofs.Tested.{sound-tested, tested-sound}
 use Rattle.rules.specs.Step.{Outcome, serve, step, unsound, changes}
+use Rattle.rules.specs.Kinds.{says_call, says_none}
 use Rattle.rules.specs.Port.{says, port_step}
 use Rattle.rules.specs.Tape.{Bytes}
 use Rattle.rules.specs.declared.Call.{Call}
 use Rattle.rules.specs.declared.Reading.{Reading}
-use Rattle.rules.specs.declared.Reading.TheVariants.{Says, Unknown}
 use Rattle.laws.specs.order.Order.{Made, run, OrderKept}
 use Rattle.laws.specs.keeps.Sounds.{step-serve, serve_not_15, fresh-sound}
 use Rattle.laws.specs.keeps.Always.{always_from}
@@ -31,21 +31,30 @@ use Rattle.port.specs.ByteTheorem.{Called, by_step, by_serve, Calls, none, more,
 -- A refusal leaves the table as it is.
 plainly_kept : (r : Reading) (t : Table) → changes (plainly r t).answer ≡ false → (plainly r t).table ≡ t
 unfolding plainly serve
-plainly_kept (Says c interrupt) t e = rw e
-plainly_kept (Unknown interrupt) t e = refl
+plainly_kept r t = go r.call
+  where
+    go : (call : Option Call) → let said : Reading = record { call = call; interrupt = r.interrupt } in changes (plainly said t).answer ≡ false → (plainly said t).table ≡ t
+    go (Some c) e = rw e
+    go None e = refl
 
 -- No answer is 15.
 plainly_other : (r : Reading) (t : Table) → (plainly r t).answer ≢ not_sound
 unfolding plainly
-plainly_other (Says c interrupt) t = serve_not_15 c interrupt t
-plainly_other (Unknown true) t = λ e. omega arith
-plainly_other (Unknown false) t = λ e. omega arith
+plainly_other r t = go r.call r.interrupt
+  where
+    go : (call : Option Call) (interrupt : Bool) → (plainly (record { call = call; interrupt = interrupt }) t).answer ≢ not_sound
+    go (Some c) interrupt = serve_not_15 c interrupt t
+    go None true = λ e. omega arith
+    go None false = λ e. omega arith
 
 -- The table is the one that the rules' calls make.
 plainly-run : {t : Table} → Sound t → (r : Reading) (b : BoundedIn r) → (plainly r t).table ≡ run (made_in r b) t
 unfolding plainly made_in run
-plainly-run s (Says c interrupt) b = ap (λ (o : Outcome). o.table) (sym (step-serve s c interrupt))
-plainly-run s (Unknown interrupt) b = refl
+plainly-run {t} s r = go r.call
+  where
+    go : (call : Option Call) → let said : Reading = record { call = call; interrupt = r.interrupt } in (b : BoundedIn said) → (plainly said t).table ≡ run (made_in said b) t
+    go (Some c) b = ap (λ (o : Outcome). o.table) (sym (step-serve s c r.interrupt))
+    go None b = refl
 
 -- The bytes are the image of that table, also where they stay as they are.
 bytes-image : (t : Table) (o : Outcome) → (changes o.answer ≡ false → o.table ≡ t) → bytes_after o (image_of t) ≡ image_of o.table
@@ -90,11 +99,11 @@ module _ {t : Table} (s : Sound t) (p : PortCall) where
   after-image : bytes_after rule (image_of t) ≡ image_of rule.table
   after-image = bytes-image t rule (rw rule-plainly (plainly_kept (reading_of p) t))
 
-  says-table : (c : Call) (interrupt : Bool) → reading_of p ≡ Says c interrupt → rule.table ≡ (step c interrupt t).table
+  says-table : (c : Call) (interrupt : Bool) → reading_of p ≡ says_call c interrupt → rule.table ≡ (step c interrupt t).table
   unfolding port_step says
   says-table c interrupt e = ap (λ (r : Reading). (says r t).table) e
 
-  unknown-table : (interrupt : Bool) → reading_of p ≡ Unknown interrupt → rule.table ≡ t
+  unknown-table : (interrupt : Bool) → reading_of p ≡ says_none interrupt → rule.table ≡ t
   unfolding plainly
   unknown-table interrupt e = ap (λ (o : Outcome). o.table) (rule-plainly ∙ ap (λ (r : Reading). plainly r t) e)
 

@@ -13,8 +13,8 @@ use Rattle.rules.specs.Sizes.{done, not_sound}
 use Rattle.rules.specs.Table.{Table, fresh_table}
 use Rattle.rules.specs.Sound.{Sound}
 use Rattle.rules.specs.Tape.{Bytes}
+use Rattle.rules.specs.Kinds.{says_call, says_none}
 use Rattle.rules.specs.declared.Call.{Call}
-use Rattle.rules.specs.declared.Reading.TheVariants.{Says, Unknown}
 use Rattle.laws.specs.order.Order.{run, OrderKept}
 use Rattle.laws.specs.order.Demand.{Demand3}
 use Rattle.table.specs.Image.{image_size, view, image_of}
@@ -46,9 +46,9 @@ pub record AsRules (p : PortCall) (t : Table) (l : List ℕ) (x v k : ℕ) (m : 
   -- it is not answered 15;
   pub taken : x ≢ not_sound
   -- a call of the list keeps the order of two tasks that stay in one queue, as demand 3 has it;
-  pub order : (c : Call) (interrupt : Bool) → reading_of p ≡ Says c interrupt → OrderKept c interrupt t (view m)
+  pub order : (c : Call) (interrupt : Bool) → reading_of p ≡ says_call c interrupt → OrderKept c interrupt t (view m)
   -- and a kind that the list lacks changes no byte.
-  pub unknown : (interrupt : Bool) → reading_of p ≡ Unknown interrupt → m ≡ l
+  pub unknown : (interrupt : Bool) → reading_of p ≡ says_none interrupt → m ≡ l
 
 -- The bytes l follow the table t:
 pub record Follows (t : Table) (l : List ℕ) : Type 0 where

@@ -1,13 +1,13 @@
 -- A call from C, and what the rules read of it.
-use Rattle.std.specs.Prelude.{List, [], ◌∷◌, ◌++◌, ℕ, zero, suc, ◌<◌, get_or}
+use Rattle.std.specs.Prelude.{Bool, Option, Some, None, List, [], ◌∷◌, ◌++◌, ℕ, zero, suc, ◌<◌, get_or}
 use Rattle.std.proofs.Common.{arith}
 use Rattle.rules.specs.Sizes.{ticks_round}
 use Rattle.rules.specs.Table.{Table}
 use Rattle.rules.specs.Step.{Outcome}
 use Rattle.rules.specs.Kinds.{is_interrupt, plain_kind, reading}
 use Rattle.rules.specs.Port.{port_step}
+use Rattle.rules.specs.declared.Call.{Call}
 use Rattle.rules.specs.declared.Reading.{Reading}
-use Rattle.rules.specs.declared.Reading.TheVariants.{Says, Unknown}
 use Rattle.laws.specs.numbers.Tape.{BoundedIn, kind-bounded}
 use Rattle.laws.specs.order.Order.{Made}
 
@@ -55,9 +55,12 @@ reading-bounded p = kind-bounded (plain_kind p.kind) (given_by p) (is_interrupt 
 -- ---- the calls of the rules
 
 -- One call, or none where the list lacks the kind.
+abbrev pub made_of : (call : Option Call) (interrupt : Bool) → BoundedIn (record { call = call; interrupt = interrupt }) → List Made
+made_of (Some c) interrupt b = record { call = c; interrupt = interrupt; bounded = b } ∷ []
+made_of None interrupt b = []
+
 unfoldable pub made_in : (r : Reading) → BoundedIn r → List Made
-made_in (Says c interrupt) b = record { call = c; interrupt = interrupt; bounded = b } ∷ []
-made_in (Unknown interrupt) b = []
+made_in r b = made_of r.call r.interrupt b
 
 abbrev pub made_by : PortCall → List Made
 made_by p = made_in (reading_of p) (reading-bounded p)

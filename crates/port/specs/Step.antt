@@ -1,5 +1,5 @@
 -- What the port answers, and the bytes that it leaves, for any bytes of any length.
-use Rattle.std.specs.Prelude.{◌≡◌, cond, List, [], ◌∷◌, ℕ, ◌/◌, ◌%◌, eqb, length}
+use Rattle.std.specs.Prelude.{◌≡◌, Some, None, cond, List, [], ◌∷◌, ℕ, ◌/◌, ◌%◌, eqb, length}
 use Rattle.std.proofs.Common.{sym, ◌∙◌}
 use Rattle.rules.specs.Sizes.{done, beyond_range, by_interrupt, not_sound}
 use Rattle.rules.specs.Table.{Table, fresh_table}
@@ -7,7 +7,6 @@ use Rattle.rules.specs.Step.{Outcome, serve, unsound, changes}
 use Rattle.rules.specs.Kinds.{reading}
 use Rattle.rules.specs.Port.{port_step}
 use Rattle.rules.specs.declared.Reading.{Reading}
-use Rattle.rules.specs.declared.Reading.TheVariants.{Says, Unknown}
 use Rattle.table.specs.Image.{image_size, view, image_of}
 
 -- The library's version, which the header has too: 1.6.0.
@@ -28,8 +27,10 @@ abbrev pub said : (kind a b c d e f : ℕ) → Reading
 said kind a b c d e f = reading kind (a ∷ b ∷ c ∷ d ∷ e ∷ f ∷ [])
 
 unfoldable pub plainly : Reading → Table → Outcome
-plainly (Says c interrupt) t = serve c interrupt t
-plainly (Unknown interrupt) t = record { answer = cond interrupt by_interrupt beyond_range; table = t; runs = t.running; further = 0 }
+plainly r t = elim (r.call) as (λ _. Outcome) [
+  | Some c ↦ serve c r.interrupt t
+  | None ↦ record { answer = cond r.interrupt by_interrupt beyond_range; table = t; runs = t.running; further = 0 }
+]
 
 unfoldable pub serve_of : (kind a b c d e f : ℕ) → List ℕ → Outcome
 serve_of kind a b c d e f l = sized (plainly (said kind a b c d e f)) l

@@ -1,5 +1,5 @@
 -- Which outcome each way through the port has.
-use Rattle.std.specs.Prelude.{◌≡◌, refl, Bool, true, false, List, ℕ, length}
+use Rattle.std.specs.Prelude.{◌≡◌, Option, Some, None, refl, Bool, true, false, List, ℕ, length}
 use Rattle.std.proofs.Math.Path.{ap}
 use Rattle.std.proofs.Common.{◌∙◌, eq-eqb, ne_eqb}
 use Rattle.std.proofs.Math.Bool.{cond}
@@ -7,8 +7,8 @@ use Rattle.rules.specs.Table.{Table}
 use Rattle.rules.specs.Sound.{is_sound}
 use Rattle.rules.specs.Step.{Outcome, step, unsound}
 use Rattle.rules.specs.Port.{unknown, says, port_step}
+use Rattle.rules.specs.declared.Call.{Call}
 use Rattle.rules.specs.declared.Reading.{Reading}
-use Rattle.rules.specs.declared.Reading.TheVariants.{Says, Unknown}
 use Rattle.table.specs.Image.{Image, image_size, view}
 use Rattle.port.specs.Step.{sized, said, plainly, outcome_of, serve_of}
 
@@ -28,8 +28,11 @@ module _ (rule : Table → Outcome) (l : List ℕ) where
 -- The rules test the table, and then do as `plainly` does.
 tested : (r : Reading) (t : Table) → says r t ≡ cond (is_sound t) (plainly r t) (unsound t)
 unfolding says plainly unknown step
-tested (Says c interrupt) t = refl
-tested (Unknown interrupt) t = refl
+tested r t = go r.call
+  where
+    go : (call : Option Call) → let said : Reading = record { call = call; interrupt = r.interrupt } in says said t ≡ cond (is_sound t) (plainly said t) (unsound t)
+    go (Some c) = refl
+    go None = refl
 
 module _ (kind a b c d e f : ℕ) (t : Table) where
   by_test : (x : Bool) → is_sound t ≡ x → port_step kind a b c d e f t ≡ cond x (plainly (said kind a b c d e f) t) (unsound t)

@@ -2,16 +2,23 @@
 #![tactic(auto)]
 
 ghost use Rattle.std.specs.Prelude.{◌≡◌, cond};
+ghost use Rattle.rules.specs.Tape.{Bytes};
 ghost use Rattle.rules.specs.Sizes.{by_interrupt, beyond_range, not_sound};
-ghost use Rattle.table.specs.Image.{Image, view};
+ghost use Rattle.table.specs.Image.{view};
 ghost use Rattle.service.specs.Told.{answer_in, further_in};
 ghost use Rattle.port.specs.Step.{said, plainly, result_in, runs_in, version, Gives, Stepped, ServedPlainly};
 
-use table::layout;
+use service::answers::Refusal;
+use table::layout::Image;
 
 pub mod fresh;
 pub mod read;
 pub mod reasons;
+
+// The answers that no service gives.
+const BY_INTERRUPT: u32 = 5;
+
+const NOT_SOUND: u32 = 15;
 
 // How a call was answered; the further result, 0 but for a flush that is done; and the task to run: its number plus 1, 0 for none. The three fill
 // a register.
@@ -45,23 +52,22 @@ fn split(all: u64) -> NtkOutcome
 fn not_sound() -> u64
     ensures { (result_in result ≡ not_sound) × (runs_in result ≡ 0) }
 {
-    outcome(15, 0)
+    outcome(NOT_SOUND, 0)
 }
 
 // The answer of a kind that the list lacks, or that an interrupt may not make.
 fn not_let_in(interrupt: bool) -> u32
     ensures { result ≡ cond interrupt by_interrupt beyond_range }
 {
-    if !interrupt {
-        return 1;
+    if interrupt {
+        return BY_INTERRUPT;
     }
-    5
+    Refusal::BeyondRange as u32
 }
 
-// The answer with the further result, and the task that runs now.
-fn answered(res: u32, image: &[u8]) -> u64
-    requires { Image image.now }
-    ensures { (result_in result ≡ res) × (runs_in result ≡ (view image.now).running) }
+// The answer with the further result, and the task that runs now. That the image's items are bytes is known of what is lent here.
+fn answered(res: u32, image: &Image) -> u64
+    ensures { (result_in result ≡ res) × (runs_in result ≡ (view image.now).running) × Bytes image.now }
 {
     let v = table::numbers::get_running(image);
     outcome(res, v)
@@ -69,23 +75,20 @@ fn answered(res: u32, image: &[u8]) -> u64
 
 // A call on an image whose table is taken to be sound. The numbers are not one array, and the task to run is left in the image: either would
 // go through memory.
-fn serve_kind(kind: u8, a: u32, b: u32, c: u32, d: u32, e: u32, f: u32, image: &mut [u8]) -> u32
-    requires { Image image.old }
-    ensures { Gives (plainly (said kind a b c d e f) (view image.old)) image.old (answer_in result) (view image.new).running (further_in result) image.new }
+fn serve_kind(kind: u8, a: u32, b: u32, c: u32, d: u32, e: u32, f: u32, image: &mut Image) -> u32
+    ensures { Bytes image.new → Gives (plainly (said kind a b c d e f) (view image.old)) image.old (answer_in result) (view image.new).running (further_in result) image.new }
 {
-    let row = kinds::row_of(kinds::let_in(kind), [a, b, c, d, e, f]);
-    match row {
-        kinds::Row::Has(call, _) => calls::serve_task(image, call),
-        kinds::Row::Lacks => not_let_in(kinds::is_interrupt(kind)),
+    match kinds::row_of(kinds::let_in(kind), [a, b, c, d, e, f]) {
+        Some((call, _)) => calls::serve_task(image, call),
+        None => not_let_in(kinds::is_interrupt(kind)),
     }
 }
 
-// The same, with the task to run. The compiler learns the image's length here, and no function below is handed it.
-fn serve_plainly(kind: u8, a: u32, b: u32, c: u32, d: u32, e: u32, f: u32, image: &mut [u8]) -> u64
-    requires { Image image.old }
+// The same, with the task to run.
+fn serve_plainly(kind: u8, a: u32, b: u32, c: u32, d: u32, e: u32, f: u32, image: &mut Image) -> u64
     ensures { Gives (plainly (said kind a b c d e f) (view image.old)) image.old (answer_in (result_in result)) (runs_in result) (further_in (result_in result)) image.new }
 {
-    let n = serve_kind(kind, a, b, c, d, e, f, &mut image[0..layout::IMAGE_SIZE]);
+    let n = serve_kind(kind, a, b, c, d, e, f, image);
     answered(n, image)
 }
 
@@ -111,9 +114,9 @@ pub fn ntk_step(
 ) -> NtkOutcome
     ensures { Stepped kind a b c d e f image.old result.answer result.runs result.further image.new }
 {
-    if image.len() != layout::IMAGE_SIZE {
+    let Some(image) = image.as_mut_array() else {
         return split(not_sound());
-    }
+    };
     if !sound::is_sound(image) {
         return split(not_sound());
     }
@@ -133,8 +136,8 @@ pub fn ntk_serve(
 ) -> NtkOutcome
     ensures { ServedPlainly kind a b c d e f image.old result.answer result.runs result.further image.new }
 {
-    if image.len() != layout::IMAGE_SIZE {
+    let Some(image) = image.as_mut_array() else {
         return split(not_sound());
-    }
+    };
     split(serve_plainly(kind, a, b, c, d, e, f, image))
 }

@@ -1,18 +1,17 @@
 -- Nine slots at a time.
 use mathlib.Core.Bool.{Bool, true, not, ◌&&◌, ◌||◌, and-true, or-true}
-use mathlib.Core.List.{List, [], ◌∷◌, ◌++◌, append_assoc, append-nil}
+use mathlib.Core.List.{List, [], ◌∷◌, ◌++◌, append_assoc}
 use mathlib.Core.Path.{◌≡◌, refl, ap, sym, ◌∙◌}
-use Prim.Native.Nat.{ℕ, zero, suc, ◌+◌, ◌≤◌}
+use Prim.Native.Nat.{ℕ, zero, suc, ◌+◌, ◌-◌, ◌≤◌}
 use native.Mathlib.Omega.{arith}
-use native.Mathlib.Nat.{add-zero}
 use lib.Dec.{eqb}
-use lib.ListN.{length, get_or, take, drop, length-drop, length-append, drop_of_length-le}
-use lib.Seq.{drop-cons, get_or-drop, take_at, drop_at, length-take-le, sets, sets-eq}
+use lib.ListN.{length, get_or, take, drop, length-drop, length-append}
+use lib.Seq.{take_all, drop-cons, take_at, drop_at, length-take-le}
 use borrow.Author.Tests.{eq-eqb, ne_eqb}
 use borrow.Rule.Slice.PartMut.{put_mid}
 use Rattle.queue.specs.Slots.{push, fall, pull, opened, fallen, closed}
 use Rattle.queue.proofs.Shift.{Opening, Closing}
-use Rattle.queue.specs.Packed.{packed, packed_rest, push-packed, pull-packed}
+use Rattle.queue.specs.Packed.{has_packed, packed_enough, packed, packed_rest, push-packed, pull-packed}
 
 -- ---- n slots from k on, one by one
 
@@ -25,17 +24,22 @@ unfolding cells
 take_cells zero k l h = refl
 take_cells (suc n) k l h = rw (drop-cons l k 0 (omega arith)) (ap (λ (r : List ℕ). get_or l k 0 ∷ r) (take_cells n (suc k) l (omega arith)))
 
+-- all from j on, as it is lent
+pub part_size : (j : ℕ) (l : List ℕ) → length (take (length l - j) (drop j l)) ≡ length l - j
+part_size j l = length-take-le (length l - j) (drop j l) (omega (arith, length-drop j l))
+
 -- the test, as it is written
 abbrev may : List ℕ → ℕ → ℕ → Bool
 may l i k = not (eqb (get_or l i 0) 0) || eqb (get_or l k 0) 0
 
-pub nine-packed : (j : ℕ) (l : List ℕ) → j + 9 ≤ length l
-    → (may l j (j + 1) && (may l (j + 1) (j + 2) && (may l (j + 2) (j + 3) && (may l (j + 3) (j + 4)
-    && (may l (j + 4) (j + 5) && (may l (j + 5) (j + 6) && (may l (j + 6) (j + 7) && may l (j + 7) (j + 8))))))))
-    ≡ packed (take 9 (drop j l))
+pub nine-packed : (j : ℕ) (l d : List ℕ) → d ≡ take (length l - j) (drop j l) → j + 9 ≤ length l
+    → (may d 0 1 && (may d 1 2 && (may d 2 3 && (may d 3 4
+    && (may d 4 5 && (may d 5 6 && (may d 6 7 && may d 7 8)))))))
+    ≡ has_packed 9 j l
 unfolding cells packed
-nine-packed j l h =
-    sym (ap packed (take_cells 9 0 (drop j l) (omega (arith, length-drop j l))) ∙ simp (get_or-drop, add-zero, or-true, and-true))
+nine-packed j l d e h =
+    let w : d ≡ drop j l = e ∙ take_all (length l - j) (drop j l) (omega (arith, length-drop j l)) in
+    rw w (sym (ap packed (take_cells 9 0 (drop j l) (omega (arith, length-drop j l))) ∙ simp (or-true, and-true)) ∙ packed_enough 9 j l h)
 
 -- ---- nine slots, taken apart
 
@@ -53,21 +57,6 @@ nine_of (x0 ∷ x1 ∷ x2 ∷ x3 ∷ x4 ∷ x5 ∷ []) h = absurd (omega arith)
 nine_of (x0 ∷ x1 ∷ x2 ∷ x3 ∷ x4 ∷ x5 ∷ x6 ∷ []) h = absurd (omega arith)
 nine_of (x0 ∷ x1 ∷ x2 ∷ x3 ∷ x4 ∷ x5 ∷ x6 ∷ x7 ∷ []) h = absurd (omega arith)
 nine_of (x0 ∷ x1 ∷ x2 ∷ x3 ∷ x4 ∷ x5 ∷ x6 ∷ x7 ∷ x8 ∷ l) h = nine
-
--- what nine stores leave
-pub pushed : (v : ℕ) (b : List ℕ) → length b ≡ 9 → sets b 0 (v ∷ cells 8 0 b) ≡ v ∷ take 8 b
-unfolding cells
-pushed v b e =
-    sets-eq (v ∷ cells 8 0 b) b 0 (omega arith)
-    ∙ ap (λ (r : List ℕ). (v ∷ cells 8 0 b) ++ r) (drop_of_length-le b {i = 9} (omega arith))
-    ∙ ap (λ (r : List ℕ). v ∷ r) (append-nil (cells 8 0 b) ∙ sym (take_cells 8 0 b (omega arith)))
-
-pub pulled : (b : List ℕ) → length b ≡ 9 → sets b 0 (cells 8 1 b) ≡ take 8 (drop 1 b) ++ get_or b 8 0 ∷ []
-unfolding cells
-pulled b e =
-    sets-eq (cells 8 1 b) b 0 (omega arith)
-    ∙ ap (λ (r : List ℕ). cells 8 1 b ++ r) (drop-cons b 8 0 (omega arith) ∙ ap (λ (r : List ℕ). get_or b 8 0 ∷ r) (drop_of_length-le b {i = 9} (omega arith)))
-    ∙ ap (λ (r : List ℕ). r ++ get_or b 8 0 ∷ []) (sym (take_cells 8 1 b (omega arith)))
 
 -- ---- a shift of the nine
 

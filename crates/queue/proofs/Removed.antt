@@ -1,5 +1,5 @@
 -- The laws of `Changes` of what a removal answers: a wrong answer in the definition is refused here.
-use Rattle.std.specs.Prelude.{◌≡◌}
+use Rattle.std.specs.Prelude.{Ok, Err, ◌≡◌}
 use Rattle.std.proofs.Math.Path.{refl, ap}
 use Rattle.std.proofs.Common.{true≢false, arith}
 use Rattle.std.proofs.Math.Bool.{Bool, true, false, cond}
@@ -13,14 +13,14 @@ use Rattle.queue.specs.Stands.{stands_some, one_same, one_other}
 use Rattle.queue.specs.Counts.{count-without}
 use Rattle.queue.specs.Stable.{without-absent}
 use Rattle.queue.specs.Changes.{made}
-use Rattle.queue.specs.declared.Answer.TheVariants.{Done, NotThere}
+use Rattle.queue.specs.declared.Refusal.TheVariants.{NotThere}
 
 module _ (id : ℕ) (l : List ℕ) where
   removed_by : (P : Bool → Type 0) → (stands (id + 1) l ≡ true → P true) → (stands (id + 1) l ≡ false → P false) → P (made (remove_answer id l))
   unfolding remove_answer
   removed_by P done left = go (stands (id + 1) l) refl
     where
-      go : (b : Bool) → stands (id + 1) l ≡ b → P (made (cond b Done NotThere))
+      go : (b : Bool) → stands (id + 1) l ≡ b → P (made (cond b (Ok tt) (Err NotThere)))
       go true e = done e
       go false e = left e
 

@@ -178,9 +178,12 @@ module _ {from to v : ℕ} {l : List ℕ} {m : List ℕ} where
       let s : set m (suc i) (get_or m i 0) ≡ mix (suc i) l r = rw (y, o.slots) (mix_down (suc i) l r (omega arith) (omega arith)) in
       record { low = h; high = omega arith; fits = b; slots = s }
 
-  pub back_turn : (j : ℕ) → to < j → Back from to v l j m → Back from to v l (j - 1) (set m j (get_or m (j - 1) 0))
-  back_turn zero h o = absurd (omega arith)
-  back_turn (suc i) h o = let s : suc i - 1 ≡ i = omega arith in rw s (back_suc i (omega arith) o)
+  pub back_turn : (j k : ℕ) → k ≡ j - 1 + 1 → to < j → Back from to v l j m → Back from to v l (j - 1) (set m k (get_or m (j - 1) 0))
+  back_turn zero k e h o = absurd (omega arith)
+  back_turn (suc i) k e h o =
+      let s : suc i - 1 ≡ i = omega arith in
+      let q : k ≡ suc i = omega arith in
+      rw (q, s) (back_suc i (omega arith) o)
 
   pub back_last : (j : ℕ) → j ≤ to → Back from to v l j m → set m to v ≡ slid from to v l
   back_last j h o =

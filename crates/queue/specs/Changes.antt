@@ -1,6 +1,6 @@
 -- The laws in the words of the contracts: what an insertion, a removal and a move keep, whatever they answer. A function's own tests are
 -- no premise here; `made` of its answer says whether the change took place.
-use Rattle.std.specs.Prelude.{◌≡◌, not, ◌&&◌, eqb, ltb, length, get_or}
+use Rattle.std.specs.Prelude.{Option, Some, None, Ok, Err, ◌≡◌, not, ◌&&◌, eqb, ltb, length, get_or}
 use Rattle.std.proofs.Math.Path.{refl, ap}
 use Rattle.std.proofs.Common.{sym, subst, ◌∙◌, inl, inr, true≢false, arith, ltb-true, lt-ltb, eqb-true, eq-eqb, ne_eqb}
 use Rattle.std.proofs.Math.Bool.{Bool, true, false, cond, and-false}
@@ -10,7 +10,7 @@ use Prim.Native.Nat.{ℕ, suc, ◌+◌, ◌-◌, ◌≤◌, ◌<◌}
 use Rattle.std.proofs.Math.Decide.{ℕ_discrete}
 use Rattle.queue.specs.Slots.{key_of, stands, limit, entered, behind, without, replaced, place_of}
 use Rattle.queue.specs.Order.{Le, All, none, more, Ordered, empty, front, one, count, those, other, level, Whole}
-use Rattle.queue.specs.Answers.{head_of, known, insert_answer, move_answer, after, inserted, replaced_in}
+use Rattle.queue.specs.Answers.{Answer, head_of, known, insert_answer, move_answer, after, inserted, replaced_in}
 use Rattle.queue.specs.Stands.{count-stands, one_same, one_other}
 use Rattle.queue.specs.Room.{nothing_falls}
 use Rattle.queue.specs.Lengths.{length-entered, length-replaced}
@@ -21,18 +21,12 @@ pub use Rattle.queue.specs.Keeps.{without-ordered}
 use Rattle.queue.specs.Stable.{those-opened, those-closed, those-skip, those-take, behind_last, before_first, without-entered, placed}
 use Rattle.queue.specs.Checked.{stands_all, entered-whole, replaced-whole}
 pub use Rattle.queue.specs.Checked.{without-whole}
-use Rattle.queue.specs.declared.Head.{Head}
-use Rattle.queue.specs.declared.Head.TheVariants.{Is, Nobody}
-use Rattle.queue.specs.declared.Answer.{Answer}
-use Rattle.queue.specs.declared.Answer.TheVariants.{Done, BeyondKeys, AlreadyThere, NotThere, Full}
+use Rattle.queue.specs.declared.Refusal.TheVariants.{BeyondKeys, AlreadyThere, NotThere, Full}
 
 -- Whether an answer says that the change took place.
 abbrev pub made : Answer → Bool
-made Done = true
-made BeyondKeys = false
-made AlreadyThere = false
-made NotThere = false
-made Full = false
+made (Ok _) = true
+made (Err _) = false
 
 -- The slot that comes in by it.
 abbrev pub newly : Answer → ℕ → List ℕ
@@ -113,7 +107,7 @@ module _ (keys : List ℕ) (id : ℕ) (l : List ℕ) where
   inserted_by P done left = go (known keys id) refl (stands (id + 1) l) refl (stands 0 l) refl
     where
       answer : Bool → Bool → Bool → Answer
-      answer k a r = cond (not k) BeyondKeys (cond a AlreadyThere (cond r Done Full))
+      answer k a r = cond (not k) (Err BeyondKeys) (cond a (Err AlreadyThere) (cond r (Ok tt) (Err Full)))
 
       go : (k : Bool) → known keys id ≡ k → (a : Bool) → stands (id + 1) l ≡ a → (r : Bool) → stands 0 l ≡ r
           → P (made (answer k a r)) (after (answer k a r) (behind keys id l) l)
@@ -180,7 +174,7 @@ module _ (in_front : Bool) (keys : List ℕ) (id : ℕ) (l : List ℕ) where
   replaced_in_by P done left = go (known keys id) refl (stands (id + 1) l) refl
     where
       answer : Bool → Bool → Answer
-      answer k a = cond (not k) BeyondKeys (cond a Done NotThere)
+      answer k a = cond (not k) (Err BeyondKeys) (cond a (Ok tt) (Err NotThere))
 
       go : (k : Bool) → known keys id ≡ k → (a : Bool) → stands (id + 1) l ≡ a → P (made (answer k a)) (after (answer k a) (replaced in_front keys id l) l)
       go false d a e = left (λ h. absurd (false≢true (sym d ∙ h)))
@@ -279,25 +273,25 @@ module _ (in_front : Bool) (old keys : List ℕ) (id : ℕ) (l : List ℕ) (w : 
 -- ---- who is first
 
 -- The slot that an answer of `first` tells of.
-abbrev slot_of : Head → ℕ
-slot_of (Is id) = id + 1
-slot_of Nobody = 0
+abbrev slot_of : Option ℕ → ℕ
+slot_of (Some id) = id + 1
+slot_of None = 0
 
 head_slot : (l : List ℕ) → slot_of (head_of l) ≡ get_or l 0 0
 unfolding head_of
 head_slot l = go (ℕ_discrete (get_or l 0 0) 0)
   where
-    go : Dec (get_or l 0 0 ≡ 0) → slot_of (cond (eqb (get_or l 0 0) 0) Nobody (Is (get_or l 0 0 - 1))) ≡ get_or l 0 0
+    go : Dec (get_or l 0 0 ≡ 0) → slot_of (cond (eqb (get_or l 0 0) 0) None (Some (get_or l 0 0 - 1))) ≡ get_or l 0 0
     go (yes e) = rw (eq-eqb (get_or l 0 0) 0 e) (sym e)
     go (no h) = rw (ne_eqb (get_or l 0 0) 0 h) (omega arith)
 
 -- Nobody in the queue has a smaller key than the first.
-pub first_least : {keys l : List ℕ} (id : ℕ) → Ordered keys l → head_of l ≡ Is id → All (Le keys (id + 1)) l
+pub first_least : {keys l : List ℕ} (id : ℕ) → Ordered keys l → head_of l ≡ Some id → All (Le keys (id + 1)) l
 first_least id empty e = none
 first_least {keys} id (front {x} {xs} a o) e = subst (λ (v : ℕ). All (Le keys v) (x ∷ xs)) (sym (head_slot (x ∷ xs)) ∙ ap slot_of e) (more (le_self keys x) a)
 
 -- Where nobody is first, every slot is free.
-pub nobody-free : {keys l : List ℕ} → Ordered keys l → head_of l ≡ Nobody → All (λ v. v ≡ 0) l
+pub nobody-free : {keys l : List ℕ} → Ordered keys l → head_of l ≡ None → All (λ v. v ≡ 0) l
 nobody-free empty e = none
 nobody-free {keys} (front {x} {xs} a o) e = more z (all_map behind-free a)
   where

@@ -12,60 +12,37 @@ ghost use Rattle.queue.specs.Answers.{head_of, found_in, known, insert_answer, r
 mod shifts;
 pub mod slides;
 
-// Who is first.
-#[derive(Clone, Copy)]
-pub enum Head {
-    Is(u8),
-    Nobody,
-}
+use shifts::FEW;
 
-// Where an id stands.
-#[derive(Clone, Copy)]
-pub enum Found {
-    At(usize),
-    Nowhere,
-}
-
-// What a change of the queue answers.
-#[derive(Clone, Copy)]
-pub enum Answer {
-    Done,
-    BeyondKeys,
-    AlreadyThere,
-    NotThere,
-    Full,
+// Why a queue stays as it came. C gets these numbers.
+#[derive(Clone, Copy, PartialEq, Eq)]
+pub enum Refusal {
+    BeyondKeys = 1,
+    AlreadyThere = 2,
+    NotThere = 3,
+    Full = 4,
 }
 
 // The slot j, and past the end a free one.
 fn slot_or_free(ids: &[u8], j: usize) -> u8
     ensures { result ≡ get_or ids.now j 0 }
 {
-    if j < ids.len() {
-        return ids[j];
-    }
-    0
+    ids.get(j).copied().unwrap_or(0)
 }
 
 // The first id.
-pub fn first(ids: &[u8]) -> Head
+pub fn first(ids: &[u8]) -> Option<u8>
     ensures { result ≡ head_of ids.now }
 {
-    let v = slot_or_free(ids, 0);
-    if v == 0 {
-        return Head::Nobody;
-    }
-    Head::Is(v - 1)
+    slot_or_free(ids, 0).checked_sub(1)
 }
 
 // The place of an id.
-pub fn find(ids: &[u8], id: u8) -> Found
+pub fn find(ids: &[u8], id: u8) -> Option<usize>
     ensures { result ≡ found_in id ids.now }
 {
     let at = slides::slot_of(ids, id as usize + 1);
-    if at < ids.len() {
-        return Found::At(at);
-    }
-    Found::Nowhere
+    (at < ids.len()).then_some(at)
 }
 
 // Whether a slot is free, or its id has a greater key.
@@ -83,15 +60,12 @@ fn is_later(keys: &[u8], key: u8, v: u8) -> bool
 pub fn place_behind(ids: &[u8], keys: &[u8], key: u8) -> usize
     ensures { result ≡ place_behind keys.now key ids.now }
 {
-    let mut i = 0;
-    while i < ids.len() {
-        let y = ids[i];
-        if is_later(keys, key, y) {
+    for (i, slot) in ids.iter().enumerate() {
+        if is_later(keys, key, *slot) {
             return i;
         }
-        i += 1;
     }
-    i
+    ids.len()
 }
 
 // Where it goes before them: behind those of the keys before its own, and in front where there is none.
@@ -104,33 +78,18 @@ pub fn place_before(ids: &[u8], keys: &[u8], key: u8) -> usize
     place_behind(ids, keys, key - 1)
 }
 
-// So many slots are shifted one by one: a short queue is done by then, and nine at a time gain on a longer one. At the front one look tells
-// the one from the other.
-const FEW: usize = 5;
-
 // v comes to the slot `at`, and those from there on move one further, up to the first free slot. Answers what falls out at
 // the end: 0 where a slot was free, and v itself where `at` is past the end.
 fn open_up(ids: &mut [u8], at: usize, v: u8) -> u8
     ensures { (result ≡ fallen at v ids.old) × (ids.new ≡ opened at v ids.old) }
 {
-    let mut carry = v;
-    let mut j = at;
-    while j < ids.len() {
-        let y = ids[j];
-        ids[j] = carry;
-        if y == 0 {
-            return 0;
-        }
-        carry = y;
-        j += 1;
-        if FEW <= j - at {
-            return shifts::open_nines(ids, j, carry);
-        }
+    match shifts::open_each(ids, at, true, v) {
+        Ok(fallen) => fallen,
+        Err(carry) => shifts::open_nines(ids, at + FEW, carry),
     }
-    carry
 }
 
-// The same, with a look ahead at the front.
+// The same. At the front one look tells a short queue from a longer one.
 pub fn open(ids: &mut [u8], at: usize, v: u8) -> u8
     ensures { (result ≡ fallen at v ids.old) × (ids.new ≡ opened at v ids.old) }
 {
@@ -144,18 +103,8 @@ pub fn open(ids: &mut [u8], at: usize, v: u8) -> u8
 fn close_up(ids: &mut [u8], at: usize)
     ensures { ids.new ≡ closed at ids.old }
 {
-    let mut j = at;
-    while j < ids.len() {
-        let y = slot_or_free(ids, j + 1);
-        ids[j] = y;
-        if y == 0 {
-            return;
-        }
-        j += 1;
-        if FEW <= j - at {
-            shifts::close_nines(ids, j);
-            return;
-        }
+    if shifts::close_each(ids, at, true) {
+        shifts::close_nines(ids, at + FEW);
     }
 }
 
@@ -196,39 +145,36 @@ fn enter(ids: &mut [u8], keys: &[u8], id: u8, ahead: bool)
 }
 
 // The id goes behind its equals. Refused: an id without a key, or 255; one that stands there; where no slot is free.
-pub fn insert(ids: &mut [u8], keys: &[u8], id: u8) -> Answer
+pub fn insert(ids: &mut [u8], keys: &[u8], id: u8) -> Result<(), Refusal>
     ensures { (result ≡ insert_answer keys.now id ids.old) × (ids.new ≡ inserted keys.now id ids.old) }
 {
     if !is_known(keys, id) {
-        return Answer::BeyondKeys;
+        return Err(Refusal::BeyondKeys);
     }
-    let at = slides::slot_of(ids, id as usize + 1);
-    if at < ids.len() {
-        return Answer::AlreadyThere;
+    if find(ids, id).is_some() {
+        return Err(Refusal::AlreadyThere);
     }
     let free = slides::slot_of(ids, 0);
     if ids.len() <= free {
-        return Answer::Full;
+        return Err(Refusal::Full);
     }
     enter(ids, keys, id, false);
-    Answer::Done
+    Ok(())
 }
 
 // The id leaves. Refused: one that does not stand there.
-pub fn remove(ids: &mut [u8], id: u8) -> Answer
+pub fn remove(ids: &mut [u8], id: u8) -> Result<(), Refusal>
     ensures { (result ≡ remove_answer id ids.old) × (ids.new ≡ without id ids.old) }
 {
-    let v = id as usize + 1;
-    if slot_or_free(ids, 0) as usize == v {
+    if slot_or_free(ids, 0) as usize == id as usize + 1 {
         close_front(ids);
-        return Answer::Done;
+        return Ok(());
     }
-    let at = slides::slot_of(ids, v);
-    if ids.len() <= at {
-        return Answer::NotThere;
-    }
+    let Some(at) = find(ids, id) else {
+        return Err(Refusal::NotThere);
+    };
     close_up(ids, at);
-    Answer::Done
+    Ok(())
 }
 
 // The slot `at`, where the id stands with no free slot before, goes, and the id comes before its equals or behind them: only the slots between move.
@@ -242,37 +188,36 @@ fn move_from(ids: &mut [u8], keys: &[u8], at: usize, id: u8, ahead: bool)
 }
 
 // The id leaves and goes before its equals or behind them.
-fn move_anew(ids: &mut [u8], keys: &[u8], id: u8, ahead: bool) -> Answer
+fn move_anew(ids: &mut [u8], keys: &[u8], id: u8, ahead: bool) -> Result<(), Refusal>
     ensures { (result ≡ move_answer keys.now id ids.old) × (ids.new ≡ replaced_in ahead keys.now id ids.old) }
 {
     if !is_known(keys, id) {
-        return Answer::BeyondKeys;
+        return Err(Refusal::BeyondKeys);
     }
     let near = slides::find_packed(ids, id);
     if near < ids.len() {
         move_from(ids, keys, near, id, ahead);
-        return Answer::Done;
+        return Ok(());
     }
     // No packed queue that has the id comes here: with a free slot before it one slide would leave something else.
-    let at = slides::slot_of(ids, id as usize + 1);
-    if ids.len() <= at {
-        return Answer::NotThere;
-    }
+    let Some(at) = find(ids, id) else {
+        return Err(Refusal::NotThere);
+    };
     close(ids, at);
     enter(ids, keys, id, ahead);
-    Answer::Done
+    Ok(())
 }
 
 // The id, whose key has changed, leaves and goes behind its equals at the new level. Refused: an id without a key, or 255; one
 // that does not stand there.
-pub fn move_behind(ids: &mut [u8], keys: &[u8], id: u8) -> Answer
+pub fn move_behind(ids: &mut [u8], keys: &[u8], id: u8) -> Result<(), Refusal>
     ensures { (result ≡ move_answer keys.now id ids.old) × (ids.new ≡ moved_in keys.now id ids.old) }
 {
     move_anew(ids, keys, id, false)
 }
 
 // The same, before its equals.
-pub fn move_before(ids: &mut [u8], keys: &[u8], id: u8) -> Answer
+pub fn move_before(ids: &mut [u8], keys: &[u8], id: u8) -> Result<(), Refusal>
     ensures { (result ≡ move_answer keys.now id ids.old) × (ids.new ≡ raised_in keys.now id ids.old) }
 {
     move_anew(ids, keys, id, true)
@@ -312,12 +257,10 @@ fn is_fit(ids: &[u8], keys: &[u8], j: usize) -> bool
 pub fn is_ordered(ids: &[u8], keys: &[u8]) -> bool
     ensures { result ≡ is_ordered keys.now ids.now }
 {
-    let mut j = 0;
-    while j < ids.len() {
+    for j in 0..ids.len() {
         if !is_fit(ids, keys, j) {
             return false;
         }
-        j += 1;
     }
     true
 }

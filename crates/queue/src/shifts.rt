@@ -1,68 +1,66 @@
 // Shifts of long queues, nine slots at a time where they are packed.
-ghost use Rattle.std.specs.Prelude.{◌≡◌, [], ◌∷◌, ◌++◌, length, get_or, take, drop, ◌+◌, ◌≤◌};
+ghost use Rattle.std.specs.Prelude.{◌≡◌, true, ◌+◌, ◌≤◌, [], ◌∷◌, ◌++◌, length, get_or, take, drop, cond, MatchResult};
 ghost use Rattle.queue.specs.Slots.{opened, fallen, closed};
 ghost use Rattle.queue.specs.Packed.{packed, has_packed};
 
-// Whether nine slots from j on are packed. The compiler makes two loads and two comparisons of eight bytes of it.
-fn are_nine_packed(ids: &[u8], j: usize) -> bool
-    requires { j + 9 ≤ length ids.now }
-    ensures { result ≡ packed (take 9 (drop j ids.now)) }
+// So many slots are shifted one by one: a short queue is done by then, and nine at a time gain on a longer one.
+pub const FEW: usize = 5;
+
+// v comes to the slot `at`, and those from there on move one further, slot by slot, up to the first free one; with `few` so many at most. Answers what
+// falls out at the end, or else what comes to the next slot. Within its callers, where `few` is known, a few slots are no loop.
+#[inline(always)]
+pub fn open_each(ids: &mut [u8], at: usize, few: bool, v: u8) -> Result<u8, u8>
+    ensures { MatchResult result
+        (λ out. (out ≡ fallen at v ids.old) × (ids.new ≡ opened at v ids.old))
+        (λ w. (few ≡ true) × (at + FEW ≤ length ids.old) × (fallen (at + FEW) w ids.new ≡ fallen at v ids.old) × (opened (at + FEW) w ids.new ≡ opened at v ids.old)) }
 {
-    let b0 = ids[j];
-    let b1 = ids[j + 1];
-    let b2 = ids[j + 2];
-    let b3 = ids[j + 3];
-    let b4 = ids[j + 4];
-    let b5 = ids[j + 5];
-    let b6 = ids[j + 6];
-    let b7 = ids[j + 7];
-    let b8 = ids[j + 8];
-    ((b0 != 0) | (b1 == 0))
-        & (((b1 != 0) | (b2 == 0))
-            & (((b2 != 0) | (b3 == 0))
-                & (((b3 != 0) | (b4 == 0))
-                    & (((b4 != 0) | (b5 == 0))
-                        & (((b5 != 0) | (b6 == 0))
-                            & (((b6 != 0) | (b7 == 0)) & ((b7 != 0) | (b8 == 0))))))))
+    let mut carry = v;
+    for j in at..ids.len() {
+        let y = ids[j];
+        ids[j] = carry;
+        if y == 0 {
+            return Ok(0);
+        }
+        carry = y;
+        if few & (j + 1 - at == FEW) {
+            return Err(carry);
+        }
+    }
+    Ok(carry)
 }
 
-// Whether there are nine more slots, and they are packed.
-fn has_nine(ids: &[u8], j: usize) -> bool
-    ensures { result ≡ has_packed 9 j ids.now }
+// The slot `at` goes, and those behind it move one nearer, slot by slot, up to the first free one; with `few` so many at most. Answers whether the next
+// slot has to go then.
+#[inline(always)]
+pub fn close_each(ids: &mut [u8], at: usize, few: bool) -> bool
+    ensures more { result ≡ true → (few ≡ true) × (at + FEW ≤ length ids.old) }
+    ensures left { cond result (closed (at + FEW) ids.new) ids.new ≡ closed at ids.old }
 {
-    if ids.len() <= j {
-        return false;
+    for j in at..ids.len() {
+        let y = crate::slot_or_free(ids, j + 1);
+        ids[j] = y;
+        if y == 0 {
+            return false;
+        }
+        if few & (j + 1 - at == FEW) {
+            return true;
+        }
     }
-    if ids.len() - j < 9 {
-        return false;
-    }
-    are_nine_packed(ids, j)
+    false
 }
 
 // v comes to the first of nine slots, and the others move one further. Answers the last. All are read before any is written, and so
-// the compiler makes one load and one store of eight bytes.
+// the compiler makes one load and one store of eight bytes. The nine become an array here and not before: of an array made of a part of a slice
+// a caller isn't told what it leaves in the slice.
 fn push_nine(b: &mut [u8], v: u8) -> u8
     requires { length b.old ≡ 9 }
     ensures { (result ≡ get_or b.old 8 0) × (b.new ≡ v ∷ take 8 b.old) }
 {
-    let b0 = b[0];
-    let b1 = b[1];
-    let b2 = b[2];
-    let b3 = b[3];
-    let b4 = b[4];
-    let b5 = b[5];
-    let b6 = b[6];
-    let b7 = b[7];
-    let b8 = b[8];
-    b[0] = v;
-    b[1] = b0;
-    b[2] = b1;
-    b[3] = b2;
-    b[4] = b3;
-    b[5] = b4;
-    b[6] = b5;
-    b[7] = b6;
-    b[8] = b7;
+    let Some(nine) = b.as_mut_array::<9>() else {
+        unreachable!()
+    };
+    let [b0, b1, b2, b3, b4, b5, b6, b7, b8] = *nine;
+    *nine = [v, b0, b1, b2, b3, b4, b5, b6, b7];
     b8
 }
 
@@ -71,41 +69,31 @@ fn pull_nine(b: &mut [u8]) -> u8
     requires { length b.old ≡ 9 }
     ensures { (result ≡ get_or b.old 8 0) × (b.new ≡ take 8 (drop 1 b.old) ++ get_or b.old 8 0 ∷ []) }
 {
-    let b1 = b[1];
-    let b2 = b[2];
-    let b3 = b[3];
-    let b4 = b[4];
-    let b5 = b[5];
-    let b6 = b[6];
-    let b7 = b[7];
-    let b8 = b[8];
-    b[0] = b1;
-    b[1] = b2;
-    b[2] = b3;
-    b[3] = b4;
-    b[4] = b5;
-    b[5] = b6;
-    b[6] = b7;
-    b[7] = b8;
+    let Some(nine) = b.as_mut_array::<9>() else {
+        unreachable!()
+    };
+    let [_, b1, b2, b3, b4, b5, b6, b7, b8] = *nine;
+    *nine = [b1, b2, b3, b4, b5, b6, b7, b8, b8];
     b8
 }
 
-// What is left at the end, and what is not packed, slot by slot.
-fn open_each(ids: &mut [u8], at: usize, v: u8) -> u8
-    ensures { (result ≡ fallen at v ids.old) × (ids.new ≡ opened at v ids.old) }
+// Whether there are nine more slots, and they are packed. The compiler makes two loads and two comparisons of eight bytes of it.
+fn has_nine(ids: &[u8], j: usize) -> bool
+    ensures { result ≡ has_packed 9 j ids.now }
 {
-    let mut carry = v;
-    let mut j = at;
-    while j < ids.len() {
-        let y = ids[j];
-        ids[j] = carry;
-        if y == 0 {
-            return 0;
-        }
-        carry = y;
-        j += 1;
+    if ids.len() < j {
+        return false;
     }
-    carry
+    let [b0, b1, b2, b3, b4, b5, b6, b7, b8, ..] = &ids[j..] else {
+        return false;
+    };
+    ((*b0 != 0) | (*b1 == 0))
+        & (((*b1 != 0) | (*b2 == 0))
+            & (((*b2 != 0) | (*b3 == 0))
+                & (((*b3 != 0) | (*b4 == 0))
+                    & (((*b4 != 0) | (*b5 == 0))
+                        & (((*b5 != 0) | (*b6 == 0))
+                            & (((*b6 != 0) | (*b7 == 0)) & ((*b7 != 0) | (*b8 == 0))))))))
 }
 
 // `open`, for a shift that is long.
@@ -113,6 +101,7 @@ pub fn open_nines(ids: &mut [u8], at: usize, v: u8) -> u8
     ensures { (result ≡ fallen at v ids.old) × (ids.new ≡ opened at v ids.old) }
 {
     let mut carry = v;
+    // A `while`, as the place where the nines end is where the rest begins.
     let mut j = at;
     while has_nine(ids, j) {
         let e = j + 9;
@@ -122,28 +111,14 @@ pub fn open_nines(ids: &mut [u8], at: usize, v: u8) -> u8
         }
         j = e;
     }
-    open_each(ids, j, carry)
-}
-
-// `open_each` towards the front.
-fn close_each(ids: &mut [u8], at: usize)
-    ensures { ids.new ≡ closed at ids.old }
-{
-    let mut j = at;
-    while j < ids.len() {
-        let y = crate::slot_or_free(ids, j + 1);
-        ids[j] = y;
-        if y == 0 {
-            return;
-        }
-        j += 1;
-    }
+    open_each(ids, j, false, carry).unwrap()
 }
 
 // `close`, for a shift that is long.
 pub fn close_nines(ids: &mut [u8], at: usize)
     ensures { ids.new ≡ closed at ids.old }
 {
+    // A `while`, as in `open_nines`; each nine begins with the last slot of the one before.
     let mut j = at;
     while has_nine(ids, j) {
         let e = j + 9;
@@ -153,5 +128,5 @@ pub fn close_nines(ids: &mut [u8], at: usize)
         }
         j += 8;
     }
-    close_each(ids, j);
+    let _ = close_each(ids, j, false);
 }

@@ -8,15 +8,12 @@ ghost use Rattle.queue.specs.Slide.{lifted, slid, slid_within, packed_at};
 pub fn slot_of(ids: &[u8], v: usize) -> usize
     ensures { result ≡ first_at (same v) ids.now }
 {
-    let mut i = 0;
-    while i < ids.len() {
-        let y = ids[i] as usize;
-        if y == v {
+    for (i, slot) in ids.iter().enumerate() {
+        if *slot as usize == v {
             return i;
         }
-        i += 1;
     }
-    i
+    ids.len()
 }
 
 // The place of an id, where no slot before it is free, or the length.
@@ -24,18 +21,15 @@ pub fn find_packed(ids: &[u8], id: u8) -> usize
     ensures { result ≡ packed_at (id + 1) ids.now }
 {
     let v = id as usize + 1;
-    let mut i = 0;
-    while i < ids.len() {
-        let slot = ids[i] as usize;
-        if slot == v {
+    for (i, slot) in ids.iter().enumerate() {
+        if *slot as usize == v {
             return i;
         }
-        if slot == 0 {
+        if *slot == 0 {
             return ids.len();
         }
-        i += 1;
     }
-    i
+    ids.len()
 }
 
 // Where an id with this key goes before its equals, or behind them.
@@ -63,30 +57,25 @@ pub fn place_without(ids: &[u8], keys: &[u8], key: u8, ahead: bool, at: usize) -
     at + rest
 }
 
-// The slot `from` goes, those behind it up to `to` move one nearer, and v comes to `to`.
+// The slot `from` goes, those behind it up to `to` move one nearer, and v comes to `to`. A loop and not `copy_within` or `rotate_left`, which become
+// calls of memmove: boards have no C library.
 fn slide_on(ids: &mut [u8], from: usize, to: usize, v: u8)
     requires { (from ≤ to) × (to < length ids.old) }
     ensures { ids.new ≡ slid from to v ids.old }
 {
-    let mut j = from;
-    while j < to {
-        let next = ids[j + 1];
-        ids[j] = next;
-        j += 1;
+    for j in from..to {
+        ids[j] = ids[j + 1];
     }
     ids[to] = v;
 }
 
-// The slot `from` goes, those before it down to `to` move one further, and v comes to `to`.
+// The slot `from` goes, those before it down to `to` move one further, and v comes to `to`. It runs the other way, or it would read what it has written.
 fn slide_back(ids: &mut [u8], from: usize, to: usize, v: u8)
     requires { (to ≤ from) × (from < length ids.old) }
     ensures { ids.new ≡ slid from to v ids.old }
 {
-    let mut j = from;
-    while to < j {
-        let last = ids[j - 1];
-        ids[j] = last;
-        j -= 1;
+    for j in (to..from).rev() {
+        ids[j + 1] = ids[j];
     }
     ids[to] = v;
 }

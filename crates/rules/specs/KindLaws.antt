@@ -4,10 +4,9 @@ use Rattle.std.proofs.Math.Bool.{true, false}
 use Rattle.std.proofs.Math.Path.{refl, fun_ext}
 use Rattle.std.proofs.Common.{arith, ne_eqb, leb-true}
 use Rattle.queue.specs.Order.{All, none, more}
-use Rattle.rules.specs.Kinds.{Kind, kinds, told_in, widths, of_kind, reading, spelled, kind_of, numbers_of}
+use Rattle.rules.specs.Kinds.{Kind, kinds, told_in, widths, says_call, of_kind, reading, spelled, kind_of, numbers_of}
 use Rattle.rules.specs.declared.Call.{Call}
 use Rattle.rules.specs.declared.Call.TheVariants.{TaskCreate, TaskDelete, ChangePriority, Suspend, Resume, Yield, Delay, DelayResume, Lock, Unlock, Tick, SetDefaultQuantum, SemaphoreCreate, SemaphoreDelete, SemaphoreWait, SemaphorePost, SemaphoreAbort, MutexCreate, MutexDelete, MutexWait, MutexPost, MutexAbort, GroupCreate, GroupDelete, GroupWait, GroupPost, GroupAbort, ChannelCreate, ChannelDelete, ChannelWait, ChannelPost, ChannelAbort, ChannelFlush}
-use Rattle.rules.specs.declared.Reading.TheVariants.{Says}
 
 -- ---- what is told of a kind
 
@@ -76,7 +75,7 @@ reading_same kind l m same = rw (fun_ext same)
 -- ---- a call and its kind
 
 -- What a call spells says that call.
-pub said_back : (c : Call) (interrupt : Bool) → of_kind (kind_of c) (numbers_of c) interrupt ≡ Says c interrupt
+pub said_back : (c : Call) (interrupt : Bool) → of_kind (kind_of c) (numbers_of c) interrupt ≡ says_call c interrupt
 unfolding told_in of_kind spelled
 said_back (TaskCreate i base quantum) interrupt = refl
 said_back (TaskDelete i) interrupt = refl

@@ -1,9 +1,8 @@
 -- The list of kinds, for the tape, for the port and for who may call: a call's kind is a row, and what goes by the kind is looked up here.
-use Rattle.std.specs.Prelude.{Bool, true, false, cond, List, [], ◌∷◌, ℕ, ◌-◌, eqb, leb, get_or, drop}
+use Rattle.std.specs.Prelude.{Bool, true, false, cond, List, [], ◌∷◌, ℕ, ◌-◌, eqb, leb, get_or, drop, Some, None}
 use Rattle.rules.specs.declared.Call.{Call}
 use Rattle.rules.specs.declared.Call.TheVariants.{TaskCreate, TaskDelete, ChangePriority, Suspend, Resume, Yield, Delay, DelayResume, Lock, Unlock, Tick, SetDefaultQuantum, SemaphoreCreate, SemaphoreDelete, SemaphoreWait, SemaphorePost, SemaphoreAbort, MutexCreate, MutexDelete, MutexWait, MutexPost, MutexAbort, GroupCreate, GroupDelete, GroupWait, GroupPost, GroupAbort, ChannelCreate, ChannelDelete, ChannelWait, ChannelPost, ChannelAbort, ChannelFlush}
 use Rattle.rules.specs.declared.Reading.{Reading}
-use Rattle.rules.specs.declared.Reading.TheVariants.{Says, Unknown}
 
 -- ---- a kind
 
@@ -96,8 +95,14 @@ plain_kind kind = cond (is_interrupt kind) (kind - interrupt_bit) kind
 
 -- The call of the kind k with these numbers, or that the list lacks k. "The kind is a byte as on the tape, numbers have 32 bits; those a
 -- kind does not use are not looked at."
+abbrev pub says_call : Call → Bool → Reading
+says_call c interrupt = record { call = Some c; interrupt = interrupt }
+
+abbrev pub says_none : Bool → Reading
+says_none interrupt = record { call = None; interrupt = interrupt }
+
 unfoldable pub of_kind : ℕ → List ℕ → Bool → Reading
-of_kind k numbers interrupt = told_of k (λ r. Says (r.call (λ i. get_or numbers i 0)) interrupt) (Unknown interrupt)
+of_kind k numbers interrupt = told_of k (λ r. says_call (r.call (λ i. get_or numbers i 0)) interrupt) (says_none interrupt)
 
 unfoldable pub reading : ℕ → List ℕ → Reading
 reading kind numbers = of_kind (plain_kind kind) numbers (is_interrupt kind)

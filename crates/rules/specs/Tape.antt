@@ -1,11 +1,10 @@
 -- "The call tape and its printer".
-use Rattle.std.specs.Prelude.{Bool, cond, List, [], ◌∷◌, ◌++◌, ℕ, zero, suc, ◌+◌, ◌-◌, ◌*◌, ◌/◌, ◌%◌, ◌<◌, eqb, ltb, length, get_or, take, drop}
+use Rattle.std.specs.Prelude.{Bool, cond, List, [], ◌∷◌, ◌++◌, ℕ, zero, suc, ◌+◌, ◌-◌, ◌*◌, ◌/◌, ◌%◌, ◌<◌, eqb, ltb, length, get_or, take, drop, Some, None}
 use Rattle.rules.specs.Table.{Table, fresh_table}
 use Rattle.rules.specs.Step.{Outcome, step}
 use Rattle.rules.specs.Kinds.{widths, plain_kind, reading}
 use Rattle.rules.specs.declared.Call.{Call}
 use Rattle.rules.specs.declared.Reading.{Reading}
-use Rattle.rules.specs.declared.Reading.TheVariants.{Says, Unknown}
 
 -- Each number of the list is a byte.
 abbrev pub Bytes : List ℕ → Type 0
@@ -54,11 +53,13 @@ bad_line = 0x62 ∷ 0x61 ∷ 0x64 ∷ 0x0A ∷ []
 
 -- What is printed of one call, and then of the rest from the table that it left; `cut` is whether its body is cut.
 unfoldable pub printed_of : (Call → Bool → Table → Outcome) → Table → Bool → (Table → List ℕ) → Reading → List ℕ
-printed_of serves t cut rest (Unknown interrupt) = bad_line
-printed_of serves t cut rest (Says c interrupt) =
-    let o = serves c interrupt t in
-    let lines = line o ++ rest o.table in
-    cond cut bad_line lines
+printed_of serves t cut rest r = elim (r.call) as (λ _. List ℕ) [
+  | Some c ↦
+      let o = serves c r.interrupt t in
+      let lines = line o ++ rest o.table in
+      cond cut bad_line lines
+  | None ↦ bad_line
+]
 
 -- What is printed of the tape l from the table t, for n calls at most, where `serves` is what a call does.
 unfoldable pub printed : (Call → Bool → Table → Outcome) → ℕ → Table → List ℕ → List ℕ

@@ -4,7 +4,7 @@
 // A task. `object` is the number of the object that it waits for, and `due` its due mark; each is 0 where there is none. `mask`, `test` and
 // `consume` are what it asks of the flags that it waits for, 0 where it waits for none. `message` is the last message that it was given, 0 where
 // it has had none.
-#[derive(Clone, Copy)]
+#[derive(Clone, Copy, Default)]
 pub struct Task {
     pub used: u8,
     pub base: u8,
@@ -23,14 +23,14 @@ pub struct Task {
     pub message: u32,
 }
 
-#[derive(Clone, Copy)]
+#[derive(Clone, Copy, Default)]
 pub struct Semaphore {
     pub used: u8,
     pub count: u32,
 }
 
 // The holder is a task's number plus 1, or 0 for none.
-#[derive(Clone, Copy)]
+#[derive(Clone, Copy, Default)]
 pub struct Mutex {
     pub used: u8,
     pub holder: u8,
@@ -38,14 +38,14 @@ pub struct Mutex {
 }
 
 // A group of 32 flags.
-#[derive(Clone, Copy)]
+#[derive(Clone, Copy, Default)]
 pub struct Group {
     pub used: u8,
     pub flags: u32,
 }
 
 // A message queue, called a channel here, since a queue is a row of tasks. `held` is how many messages it has; they stand in the table's row of it.
-#[derive(Clone, Copy)]
+#[derive(Clone, Copy, Default)]
 pub struct Channel {
     pub used: u8,
     pub capacity: u8,
@@ -90,9 +90,9 @@ pub enum Call {
     ChannelFlush(u32),
 }
 
-// What a kind byte and its numbers say: a call, made by an interrupt or not, or a kind that the list lacks.
+// What a kind byte and its numbers say: the call, none where the list lacks the kind, and whether an interrupt made it.
 #[derive(Clone, Copy)]
-pub enum Reading {
-    Says(Call, bool),
-    Unknown(bool),
+pub struct Reading {
+    pub call: Option<Call>,
+    pub interrupt: bool,
 }

@@ -1,108 +1,68 @@
-// Semaphores: create, delete, wait, post, abort.
+// Semaphores: create, wait, post. What is the same for every kind of object, `object` has.
 #![tactic(auto)]
 
 ghost use Rattle.std.specs.Prelude.{cond, ◌<◌};
+ghost use Rattle.rules.specs.Sizes.{semaphore_count, done};
 ghost use Rattle.rules.specs.Move.{chosen};
-ghost use Rattle.rules.specs.Object.{block_answer, object_create_answer, object_delete_answer, object_delete, object_abort_answer, object_abort};
+ghost use Rattle.rules.specs.Object.{block_answer, object_create_answer};
 ghost use Rattle.rules.specs.Semaphore.{create, wait_answer, wait, post_answer, post};
 ghost use Rattle.rules.specs.Family.{semaphores};
-ghost use Rattle.table.specs.Image.{Image, view};
+ghost use Rattle.table.specs.Image.{view};
+ghost use Rattle.service.specs.Answers.{number_of};
 ghost use Rattle.service.specs.Served.{Served};
 
+use service::answers::{Answer, Done, Refusal};
 use service::ending;
+use table::families::{Kind, Semaphores};
+use table::layout::Image;
+use table::tasks::Asked;
 use table::{moves, semaphores};
 
-pub fn create(s: &mut [u8], i: u32, count: u32) -> u8
-    requires { Image s.old }
-    ensures { Served (object_create_answer semaphores i (view s.old)) (chosen (create i count (view s.old))) result s.old s.new }
+pub fn create(s: &mut Image, i: u32, count: u32) -> Answer
+    ensures { Served (object_create_answer semaphores i (view s.old)) (chosen (create i count (view s.old))) (number_of result) s.old s.new }
 {
-    let used = semaphores::used_at(s, i as usize);
-    let n = object::create_answer(used, 16, i);
-    if service::refuses(n) {
-        return n;
-    }
-    semaphores::store(
-        s,
-        i as usize,
-        rules::Semaphore {
-            used: 1,
-            count: count,
-        },
-    );
+    let j = object::may_create::<Semaphores>(s, i)?;
+    semaphores::store(s, j, rules::Semaphore { used: 1, count });
     moves::choose(s);
-    n
-}
-
-pub fn delete(s: &mut [u8], i: u32, force: u32) -> u8
-    requires { Image s.old }
-    ensures { Served (object_delete_answer semaphores i force (view s.old)) (chosen (object_delete semaphores i (view s.old))) result s.old s.new }
-{
-    let used = semaphores::used_at(s, i as usize);
-    let n = object::delete_waiters(s, used, 16, 1, i, force);
-    if service::refuses(n) {
-        return n;
-    }
-    semaphores::store(s, i as usize, rules::Semaphore { used: 0, count: 0 });
-    moves::choose(s);
-    n
+    Ok(Done::Now)
 }
 
 // A wait for semaphore i, in use: it is taken, or the caller waits.
-fn take(s: &mut [u8], i: usize, block: u32, limit: u32) -> u8
-    requires { (i < 16) × Image s.old }
-    ensures { Served (cond (semaphores.offers (view s.old) i) 0 (block_answer block (view s.old))) (chosen (wait i limit (view s.old))) result s.old s.new }
+fn take(s: &mut Image, i: usize, block: u32, limit: u32) -> Answer
+    requires { i < semaphore_count }
+    ensures { Served (cond (semaphores.offers (view s.old) i) done (block_answer block (view s.old))) (chosen (wait i limit (view s.old))) (number_of result) s.old s.new }
 {
     let count = semaphores::get_count(s, i);
-    if 0 < count {
-        semaphores::set_count(s, i, count - 1);
-        object::take_now(s);
-        moves::choose(s);
-        return 0;
+    if count == 0 {
+        return object::wait_for::<Semaphores>(s, i, block, limit, Asked::NOTHING);
     }
-    object::wait_for(s, 2, i as u8, 32, block, limit)
-}
-
-pub fn wait(s: &mut [u8], i: u32, block: u32, limit: u32) -> u8
-    requires { Image s.old }
-    ensures { Served (wait_answer i block (view s.old)) (chosen (wait i limit (view s.old))) result s.old s.new }
-{
-    let used = semaphores::used_at(s, i as usize);
-    let n = object::ask_answer(s, used, 16, i, block);
-    if service::refuses(n) {
-        return n;
-    }
-    take(s, i as usize, block, limit)
-}
-
-pub fn post(s: &mut [u8], i: u32) -> u8
-    requires { Image s.old }
-    ensures { Served (post_answer i (view s.old)) (chosen (post i (view s.old))) result s.old s.new }
-{
-    if 16 <= i {
-        return 1;
-    }
-    if !(semaphores::get_used(s, i as usize) == 1) {
-        return 2;
-    }
-    let count = semaphores::get_count(s, i as usize);
-    if 4294967295 <= count {
-        return 11;
-    }
-    let v = moves::first_in(s, 1 + i as usize);
-    if v == 0 {
-        semaphores::set_count(s, i as usize, count + 1);
-        moves::choose(s);
-        return 0;
-    }
-    ending::end_wait(s, 0, v as usize - 1);
+    semaphores::set_count(s, i, count - 1);
+    object::take_now(s);
     moves::choose(s);
-    0
+    Ok(Done::Now)
 }
 
-pub fn abort(s: &mut [u8], i: u32) -> u8
-    requires { Image s.old }
-    ensures { Served (object_abort_answer semaphores i (view s.old)) (chosen (object_abort semaphores i (view s.old))) result s.old s.new }
+pub fn wait(s: &mut Image, i: u32, block: u32, limit: u32) -> Answer
+    ensures { Served (wait_answer i block (view s.old)) (chosen (wait i limit (view s.old))) (number_of result) s.old s.new }
 {
-    let used = semaphores::used_at(s, i as usize);
-    object::abort_object(s, used, 16, 1, i)
+    let j = object::may_wait::<Semaphores>(s, i, block)?;
+    take(s, j, block, limit)
+}
+
+pub fn post(s: &mut Image, i: u32) -> Answer
+    ensures { Served (post_answer i (view s.old)) (chosen (post i (view s.old))) (number_of result) s.old s.new }
+{
+    let j = object::in_use::<Semaphores>(s, i)?;
+    let count = semaphores::get_count(s, j);
+    if count == u32::MAX {
+        return Err(Refusal::CountFull);
+    }
+    let v = moves::first_in(s, Semaphores::FIRST + j);
+    if v == 0 {
+        semaphores::set_count(s, j, count + 1);
+    } else {
+        ending::end_wait(s, ending::GIVEN, v as usize - 1);
+    }
+    moves::choose(s);
+    Ok(Done::Now)
 }

@@ -1,3 +1,4 @@
+pub mod Answers
 pub mod Served
 pub mod Serving
 pub mod Told

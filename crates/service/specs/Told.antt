@@ -1,10 +1,12 @@
 -- What a call promises that may tell a further result beside its answer. Both are one number: the answer in its lower 16 bits, the further result above.
-use Rattle.std.specs.Prelude.{◌≡◌, refl, Bool, true, false, cond, List, ℕ, ◌*◌, ◌/◌, ◌%◌, ◌<◌}
+use Rattle.std.specs.Prelude.{◌≡◌, refl, Bool, true, false, cond, List, ℕ, Result, Ok, Err, ◌*◌, ◌/◌, ◌%◌, ◌<◌}
 use Rattle.std.proofs.Common.{sym, ◌∙◌, arith}
 use Rattle.rules.specs.Table.{Table}
 use Rattle.rules.specs.Step.{changes}
 use Rattle.rules.specs.Tape.{Bytes}
 use Rattle.table.specs.Image.{Image, view}
+use Rattle.service.specs.Answers.{refusal_number, refusal-keeps}
+use Rattle.service.specs.declared.answers.Refusal.{Refusal}
 use Rattle.service.specs.Served.{Served, determined}
 use Rattle.service.specs.Serving.{refused, served}
 
@@ -13,6 +15,11 @@ answer_in r = r % 65536
 
 abbrev pub further_in : ℕ → ℕ
 further_in r = r / 65536
+
+-- A call whose answer is a further result k, or a refusal.
+abbrev pub told_of : Result ℕ Refusal → ℕ
+told_of (Ok k) = 65536 * k
+told_of (Err r) = refusal_number r
 
 -- The call is served, and where it is done it tells k; "0 otherwise". The answer is a byte.
 pub record Told (n : ℕ) (new : Table) (k r : ℕ) (l m : List ℕ) : Type 0 where

@@ -1,6 +1,7 @@
 -- The walk over a queue, turn by turn.
 use mathlib.Core.Path.{◌≡◌, refl, sym, ap, ◌∙◌}
 use mathlib.Core.Bool.{true, false, cond, false≢true}
+use Rattle.std.specs.Prelude.{Some, None}
 use mathlib.Core.List.{List, ◌∷◌}
 use Prim.Native.Nat.{ℕ, ◌+◌, ◌-◌, ◌≤◌, ◌<◌}
 use native.Mathlib.Nat.{zero-add}
@@ -50,13 +51,13 @@ module _ {keys ids spots₀ : List ℕ} {q : ℕ} where
 
   module _ {key : ℕ} {spots : List ℕ} {j : ℕ} (t : Turn keys ids spots₀ q key spots j) where
     -- The front of what is left is free: the walk ends.
-    turn_over : get_or (drop j ids) 0 0 ≡ 0 → Walked (lined keys q 0 spots₀ ids) ids spots₀ j spots
+    turn_over : get_or (drop j ids) 0 0 ≡ 0 → Walked (lined keys q 0 spots₀ ids) ids spots₀ (Some j) spots
     turn_over z =
         let passed : lined keys q 0 spots₀ ids ≡ true = t.test ∙ lined-free keys q key spots (drop j ids) z in
         let all : lead ids ≡ j = omega (arith, t.ahead, lead_none (drop j ids) z) in
-        record { filled = rw passed (sym all); left = λ e. sym (t.left ∙ struck-free spots (drop j ids) z) }
+        record { filled = rw passed (ap Some (sym all)); left = λ e. sym (t.left ∙ struck-free spots (drop j ids) z) }
 
-    pub turn_end : length ids ≤ j → Walked (lined keys q 0 spots₀ ids) ids spots₀ j spots
+    pub turn_end : length ids ≤ j → Walked (lined keys q 0 spots₀ ids) ids spots₀ (Some j) spots
     turn_end h = turn_over (ap (λ (l : List ℕ). get_or l 0 0) (drop_of_length-le ids h))
 
     -- The slot at j holds v.
@@ -64,7 +65,7 @@ module _ {keys ids spots₀ : List ℕ} {q : ℕ} where
       cut : drop j ids ≡ v ∷ drop (j + 1) ids
       cut = rw (add-one, e) (drop-cons ids j 0 h)
 
-      pub turn_free : v ≡ 0 → Walked (lined keys q 0 spots₀ ids) ids spots₀ j spots
+      pub turn_free : v ≡ 0 → Walked (lined keys q 0 spots₀ ids) ids spots₀ (Some j) spots
       turn_free z = turn_over (ap (λ (l : List ℕ). get_or l 0 0) cut ∙ z)
 
       pub turn_more : {k : ℕ} → k ≡ key_of keys v → (v ≡ 0 → ⊥) → may_stand q key keys spots v ≡ true → Turn keys ids spots₀ q k (set spots (v - 1) struck_out) (j + 1)
@@ -76,7 +77,7 @@ module _ {keys ids spots₀ : List ℕ} {q : ℕ} where
             ahead = omega (arith, t.ahead, ap lead cut, lead_more v (drop (j + 1) ids) d);
           }
 
-      pub turn_stop : (after : List ℕ) → (v ≡ 0 → ⊥) → may_stand q key keys spots v ≡ false → Walked (lined keys q 0 spots₀ ids) ids spots₀ struck_out after
+      pub turn_stop : (after : List ℕ) → (v ≡ 0 → ⊥) → may_stand q key keys spots v ≡ false → Walked (lined keys q 0 spots₀ ids) ids spots₀ None after
       turn_stop after d m =
           let failed : lined keys q 0 spots₀ ids ≡ false = t.test ∙ ap (lined keys q key spots) cut ∙ lined_stop keys q key spots v (drop (j + 1) ids) d m in
           record { filled = rw failed refl; left = λ z. absurd (false≢true (sym failed ∙ z)) }

@@ -1,6 +1,6 @@
 -- One queue, slot by slot, from its front up to the first free slot. `spots` has where each task stands; a slot strikes the spot of its task
 -- out, and so it can stand in no second slot.
-use Rattle.std.specs.Prelude.{◌≡◌, refl, ◌⊎◌, Bool, cond, ◌&&◌, List, [], ◌∷◌, ℕ, ◌+◌, ◌-◌, ◌≤◌, ◌<◌, leb, length, set}
+use Rattle.std.specs.Prelude.{◌≡◌, refl, ◌⊎◌, Option, Some, None, Bool, cond, ◌&&◌, List, [], ◌∷◌, ℕ, ◌+◌, ◌-◌, ◌≤◌, ◌<◌, leb, length, set}
 use Rattle.std.proofs.Math.Path.{ap}
 use Rattle.std.proofs.Common.{◌∙◌, length-set, get_or-set_same, get_or-set_other}
 use Rattle.std.proofs.Math.Logic.{inl, inr, ⊎_elim}
@@ -43,8 +43,8 @@ struck spots [] = spots
 struck spots (x ∷ xs) = let rest = struck (set spots (x - 1) struck_out) xs in cond (eqb x 0) spots rest
 
 -- What the walk over a queue answers and leaves, by a test that it passes.
-pub record Walked (passes : Bool) (ids spots : List ℕ) (r : ℕ) (after : List ℕ) : Type 0 where
-  pub filled : r ≡ cond passes (lead ids) struck_out
+pub record Walked (passes : Bool) (ids spots : List ℕ) (r : Option ℕ) (after : List ℕ) : Type 0 where
+  pub filled : r ≡ cond passes (Some (lead ids)) None
   pub left : passes ≡ true → after ≡ struck spots ids
 
 -- ---- what it says of a queue that is packed

@@ -47,6 +47,10 @@ and_second false b e = absurd (false≢true e)
 
 -- ---- each number below n: a loop that goes on to the end, and one that stops
 
+-- What a test told of each number below n is whether p holds of it.
+abbrev pub Tells : ℕ → (ℕ → Bool → Type 0) → (ℕ → Bool) → Type 0
+Tells n told p = (i : ℕ) (b : Bool) → i < n → told i b → b ≡ p i
+
 pub each_none : (p : ℕ → Bool) → true ≡ each 0 p
 unfolding each
 each_none p = refl

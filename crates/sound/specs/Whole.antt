@@ -1,6 +1,6 @@
 -- What is tested together is the standing rules.
-use Rattle.std.specs.Prelude.{◌≡◌, refl, Bool, true, false, cond, not, ◌&&◌, ◌||◌, List, ℕ, ◌+◌, ◌-◌, ◌≤◌, ◌<◌, eqb, leb}
-use Rattle.std.proofs.Common.{ap, ◌∙◌, pos_of_ne-zero, arith, eq-eqb, ne_eqb}
+use Rattle.std.specs.Prelude.{◌≡◌, refl, Option, Some, None, unwrap_or, Bool, true, false, cond, not, ◌&&◌, ◌||◌, List, ℕ, ◌+◌, ◌-◌, ◌≤◌, ◌<◌, eqb, leb}
+use Rattle.std.proofs.Common.{ap, sym, ◌∙◌, pos_of_ne-zero, arith, eq-eqb, ne_eqb}
 use Rattle.std.proofs.Math.Bool.{and-true}
 use Rattle.rules.specs.Sizes.{task_count, semaphore_count, mutex_count, group_count, channel_count, most_nested, most_quantum, ticks_round}
 use Rattle.rules.specs.Table.{Table, task_of, semaphore_of, mutex_of, group_of, channel_of, row_of, queue_count, able_queue, first_in, is_able}
@@ -55,14 +55,14 @@ module _ {t : Table} {spots : List ℕ} (shaped : Shaped t) (tasks : SoundTasks 
   abbrev are_holders_sound : Bool
   are_holders_sound = each mutex_count (is_holder_sound t)
 
-  told : {n : ℕ} {after : List ℕ} → AllWalked t spots n after
-      → eqb (n + frees queue_count t) slot_count && (are_met after && are_holders_sound) ≡ each queue_count (is_passed spots t) && (are_packed && (are_met (spots_at spots t queue_count) && are_holders_sound))
-  told {n} {after} w = go (each queue_count (is_passed spots t)) w.filled w.left
+  told : {r : Option ℕ} {after : List ℕ} → AllWalked t spots r after
+      → eqb (unwrap_or r (slot_count + 1) + frees queue_count t) slot_count && (are_met after && are_holders_sound) ≡ each queue_count (is_passed spots t) && (are_packed && (are_met (spots_at spots t queue_count) && are_holders_sound))
+  told {r} {after} w = go (each queue_count (is_passed spots t)) w.filled w.left
     where
-      go : (b : Bool) → n ≡ cond b (leads queue_count t) (slot_count + 1) → (b ≡ true → after ≡ spots_at spots t queue_count)
-          → eqb (n + frees queue_count t) slot_count && (are_met after && are_holders_sound) ≡ b && (are_packed && (are_met (spots_at spots t queue_count) && are_holders_sound))
+      go : (b : Bool) → r ≡ cond b (Some (leads queue_count t)) None → (b ≡ true → after ≡ spots_at spots t queue_count)
+          → eqb (unwrap_or r (slot_count + 1) + frees queue_count t) slot_count && (are_met after && are_holders_sound) ≡ b && (are_packed && (are_met (spots_at spots t queue_count) && are_holders_sound))
       go true e f = rw (e, f refl)
-      go false e f = rw (ne_eqb (n + frees queue_count t) slot_count (λ z. omega arith))
+      go false e f = rw (e, ne_eqb (slot_count + 1 + frees queue_count t) slot_count (λ z. omega arith))
 
   say : Decides (are_packed && ((are_lined && are_met (spots_at spots t queue_count)) && (are_fronts_sound && are_holders_sound))) (SoundQueues (worded t) × (Waits t × HoldersUsed t))
   say =
@@ -72,13 +72,19 @@ module _ {t : Table} {spots : List ℕ} (shaped : Shaped t) (tasks : SoundTasks 
       (s, w)
 
   -- What the code tests of the queues.
-  pub queues-told : {n : ℕ} {after : List ℕ} → AllWalked t spots n after
-      → eqb (n + frees queue_count t) slot_count && (each task_count (is_met after) && each mutex_count (is_holder_sound t)) ≡ are_queues_sound t
+  pub queues-told : {r : Option ℕ} {after : List ℕ} → AllWalked t spots r after
+      → eqb (unwrap_or r (slot_count + 1) + frees queue_count t) slot_count && (each task_count (is_met after) && each mutex_count (is_holder_sound t)) ≡ are_queues_sound t
   queues-told w =
       told w
       ∙ ap (λ (b : Bool). b && (are_packed && (are_met (spots_at spots t queue_count) && are_holders_sound))) (passed_both spots t)
       ∙ turned are_lined are_fronts_sound are_packed (are_met (spots_at spots t queue_count)) are_holders_sound
       ∙ same_test say (both (queued (worded t)) (waits_right t))
+
+  -- A queue that does not pass.
+  pub queues-refused : {after : List ℕ} → AllWalked t spots None after → false ≡ are_queues_sound t
+  queues-refused {after} w =
+      ap (λ (b : Bool). b && (are_met after && are_holders_sound)) (sym (ne_eqb (slot_count + 1 + frees queue_count t) slot_count (λ z. omega arith)))
+      ∙ queues-told w
 
 -- ---- the single numbers, and who runs
 

@@ -3,13 +3,15 @@ ghost use Rattle.std.specs.Prelude.{◌≡◌, ◌<◌};
 ghost use Rattle.rules.specs.Sizes.{group_count};
 ghost use Rattle.rules.specs.Table.{group_of};
 ghost use Rattle.rules.specs.Sound.{each, is_sound_group};
-ghost use Rattle.table.specs.Image.{Image, view};
+ghost use Rattle.table.specs.Image.{view};
 
+use crate::every::every;
 use table::layout;
+use table::layout::Image;
 
 // Every set of 32 flags is in range.
-fn is_right(s: &[u8], i: usize) -> bool
-    requires { (i < group_count) × Image s.now }
+fn is_right(s: &Image, i: usize) -> bool
+    requires { i < group_count }
     ensures { result ≡ is_sound_group (group_of (view s.now) i) }
 {
     let used = table::groups::get_used(s, i);
@@ -17,15 +19,8 @@ fn is_right(s: &[u8], i: usize) -> bool
     (used <= 1) & ((used != 0) | (flags == 0))
 }
 
-pub fn are_right(s: &[u8]) -> bool
-    requires { Image s.now }
+pub fn are_right(s: &Image) -> bool
     ensures { result ≡ each group_count (λ i. is_sound_group (group_of (view s.now) i)) }
 {
-    let mut all = true;
-    let mut i = 0;
-    while i < layout::GROUPS {
-        all = is_right(s, i) & all;
-        i += 1;
-    }
-    all
+    every(layout::GROUPS, |i| is_right(s, i))
 }

@@ -3,13 +3,15 @@ ghost use Rattle.std.specs.Prelude.{◌≡◌, ◌<◌};
 ghost use Rattle.rules.specs.Sizes.{mutex_count};
 ghost use Rattle.rules.specs.Table.{mutex_of};
 ghost use Rattle.rules.specs.Sound.{each, is_sound_mutex};
-ghost use Rattle.table.specs.Image.{Image, view};
+ghost use Rattle.table.specs.Image.{view};
 
+use crate::every::every;
 use table::layout;
+use table::layout::Image;
 
 // What is held is in use.
-fn is_right(s: &[u8], i: usize) -> bool
-    requires { (i < mutex_count) × Image s.now }
+fn is_right(s: &Image, i: usize) -> bool
+    requires { i < mutex_count }
     ensures { result ≡ is_sound_mutex (mutex_of (view s.now) i) }
 {
     let used = table::mutexes::get_used(s, i);
@@ -20,15 +22,8 @@ fn is_right(s: &[u8], i: usize) -> bool
     (used <= 1) & ((holder <= 32) & ((nesting <= 250) & (unheld & held)))
 }
 
-pub fn are_right(s: &[u8]) -> bool
-    requires { Image s.now }
+pub fn are_right(s: &Image) -> bool
     ensures { result ≡ each mutex_count (λ i. is_sound_mutex (mutex_of (view s.now) i)) }
 {
-    let mut all = true;
-    let mut i = 0;
-    while i < layout::MUTEXES {
-        all = is_right(s, i) & all;
-        i += 1;
-    }
-    all
+    every(layout::MUTEXES, |i| is_right(s, i))
 }

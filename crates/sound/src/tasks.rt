@@ -1,46 +1,43 @@
-// The fields of the tasks. A test has no branch and a loop no early end, so that the compiler takes many tasks at once.
+// The fields of the tasks. A test has no branch, so that the compiler takes many tasks at once.
 ghost use Rattle.std.specs.Prelude.{◌≡◌, ◌<◌};
 ghost use Rattle.rules.specs.Sizes.{task_count};
 ghost use Rattle.rules.specs.Table.{task_of};
 ghost use Rattle.rules.specs.Family.{objects_in};
 ghost use Rattle.rules.specs.Sound.{each, asks_in};
-ghost use Rattle.table.specs.Image.{Image, view};
+ghost use Rattle.table.specs.Image.{view};
 ghost use Rattle.sound.specs.Rows.{has_sound_levels, has_sound_state, has_sound_asks, has_sound_fields, has_sound_turns, has_sound_mark, has_sound_mask, has_sound_message, are_tasks_sound};
 
+use crate::every::every;
+use table::layout::Image;
+use table::tasks::{DELAYED, PLAIN, WAITS_FLAGS, WAITS_MESSAGE, WAITS_MUTEX, WAITS_SEMAPHORE};
 use table::{layout, numbers};
 
 // How many numbers the object of a task in this state may have.
-fn objects_in(state: u8) -> u8
+#[tactic(auto, unfolding(rules::specs::Family::of_state))]
+pub fn objects_in(state: u8) -> u8
     ensures { result ≡ objects_in state }
 {
-    if state == 2 {
-        return 16;
+    match state {
+        WAITS_SEMAPHORE => layout::SEMAPHORES as u8,
+        WAITS_MUTEX => layout::MUTEXES as u8,
+        WAITS_FLAGS => layout::GROUPS as u8,
+        WAITS_MESSAGE => layout::CHANNELS as u8,
+        _ => 1,
     }
-    if state == 3 {
-        return 16;
-    }
-    if state == 4 {
-        return 8;
-    }
-    if state == 5 {
-        return 16;
-    }
-    1
 }
 
 // How many numbers what is asked of flags may have: n, and none but 0 where the task waits for no flags.
-fn asks_in(state: u8, n: u8) -> u8
+#[tactic(auto, unfolding(rules::specs::Sound::asks_in))]
+pub fn asks_in(state: u8, n: u8) -> u8
     ensures { result ≡ asks_in state n }
 {
-    if state == 4 {
-        return n;
-    }
-    1
+    if state == WAITS_FLAGS { n } else { 1 }
 }
 
 // Its priorities, and how often it is suspended.
-fn has_right_levels(s: &[u8], i: usize) -> bool
-    requires { (i < task_count) × Image s.now }
+#[tactic(auto, unfolding(crate::specs::Rows::has_sound_levels))]
+fn has_right_levels(s: &Image, i: usize) -> bool
+    requires { i < task_count }
     ensures { result ≡ has_sound_levels (task_of (view s.now) i) }
 {
     let used = table::tasks::get_used(s, i);
@@ -52,8 +49,9 @@ fn has_right_levels(s: &[u8], i: usize) -> bool
 }
 
 // Its state and what goes with it.
-fn has_right_state(s: &[u8], i: usize) -> bool
-    requires { (i < task_count) × Image s.now }
+#[tactic(auto, unfolding(crate::specs::Rows::has_sound_state))]
+fn has_right_state(s: &Image, i: usize) -> bool
+    requires { i < task_count }
     ensures { result ≡ has_sound_state (task_of (view s.now) i) }
 {
     let used = table::tasks::get_used(s, i);
@@ -61,15 +59,16 @@ fn has_right_state(s: &[u8], i: usize) -> bool
     let object = table::tasks::get_object(s, i);
     let marked = table::tasks::get_marked(s, i);
     let outcome = table::tasks::get_outcome(s, i);
-    let free = (used != 0) | ((state == 0) & (outcome == 0));
-    let timed = (1 < state) | (marked == state);
-    (state <= 5)
+    let free = (used != 0) | ((state == PLAIN) & (outcome == 0));
+    let timed = (DELAYED < state) | (marked == state);
+    (state <= WAITS_MESSAGE)
         & ((object < objects_in(state)) & ((marked <= 1) & ((outcome <= 3) & (timed & free))))
 }
 
 // The test that it waits for, and whether it consumes the flags.
-fn has_right_asks(s: &[u8], i: usize) -> bool
-    requires { (i < task_count) × Image s.now }
+#[tactic(auto, unfolding(crate::specs::Rows::has_sound_asks))]
+fn has_right_asks(s: &Image, i: usize) -> bool
+    requires { i < task_count }
     ensures { result ≡ has_sound_asks (task_of (view s.now) i) }
 {
     let state = table::tasks::get_state(s, i);
@@ -79,22 +78,17 @@ fn has_right_asks(s: &[u8], i: usize) -> bool
 }
 
 // The fields of one byte.
-fn are_fields_right(s: &[u8]) -> bool
-    requires { Image s.now }
+fn are_fields_right(s: &Image) -> bool
     ensures { result ≡ each task_count (λ i. has_sound_fields (task_of (view s.now) i)) }
 {
-    let mut all = true;
-    let mut i = 0;
-    while i < layout::TASKS {
-        all = (has_right_levels(s, i) & (has_right_state(s, i) & has_right_asks(s, i))) & all;
-        i += 1;
-    }
-    all
+    every(layout::TASKS, |i| {
+        has_right_levels(s, i) & (has_right_state(s, i) & has_right_asks(s, i))
+    })
 }
 
 // Every number of 16 bits is in range. A task in use has a quantum, and nobody else.
-fn has_right_turns(s: &[u8], i: usize) -> bool
-    requires { (i < task_count) × Image s.now }
+fn has_right_turns(s: &Image, i: usize) -> bool
+    requires { i < task_count }
     ensures { result ≡ has_sound_turns (task_of (view s.now) i) }
 {
     let used = table::tasks::get_used(s, i);
@@ -104,22 +98,15 @@ fn has_right_turns(s: &[u8], i: usize) -> bool
 }
 
 // Quantum and what is left of it.
-fn are_turns_right(s: &[u8]) -> bool
-    requires { Image s.now }
+fn are_turns_right(s: &Image) -> bool
     ensures { result ≡ each task_count (λ i. has_sound_turns (task_of (view s.now) i)) }
 {
-    let mut all = true;
-    let mut i = 0;
-    while i < layout::TASKS {
-        all = has_right_turns(s, i) & all;
-        i += 1;
-    }
-    all
+    every(layout::TASKS, |i| has_right_turns(s, i))
 }
 
 // Every number of 32 bits is in range where there is a mark.
-fn has_right_mark(s: &[u8], i: usize, tick: u32) -> bool
-    requires { (i < task_count) × Image s.now }
+fn has_right_mark(s: &Image, i: usize, tick: u32) -> bool
+    requires { i < task_count }
     ensures { result ≡ has_sound_mark tick (task_of (view s.now) i) }
 {
     let marked = table::tasks::get_marked(s, i);
@@ -128,47 +115,33 @@ fn has_right_mark(s: &[u8], i: usize, tick: u32) -> bool
 }
 
 // The due marks.
-fn are_marks_right(s: &[u8]) -> bool
-    requires { Image s.now }
+fn are_marks_right(s: &Image) -> bool
     ensures { result ≡ each task_count (λ i. has_sound_mark (view s.now).tick (task_of (view s.now) i)) }
 {
     let tick = numbers::get_tick(s);
-    let mut all = true;
-    let mut i = 0;
-    while i < layout::TASKS {
-        all = has_right_mark(s, i, tick) & all;
-        i += 1;
-    }
-    all
+    every(layout::TASKS, |i| has_right_mark(s, i, tick))
 }
 
 // Who waits for flags, and nobody else, has a mask.
-fn has_right_mask(s: &[u8], i: usize) -> bool
-    requires { (i < task_count) × Image s.now }
+fn has_right_mask(s: &Image, i: usize) -> bool
+    requires { i < task_count }
     ensures { result ≡ has_sound_mask (task_of (view s.now) i) }
 {
     let state = table::tasks::get_state(s, i);
     let mask = table::tasks::get_mask(s, i);
-    ((state == 4) | (mask == 0)) & ((state != 4) | (mask != 0))
+    ((state == WAITS_FLAGS) | (mask == 0)) & ((state != WAITS_FLAGS) | (mask != 0))
 }
 
 // The masks.
-fn are_masks_right(s: &[u8]) -> bool
-    requires { Image s.now }
+fn are_masks_right(s: &Image) -> bool
     ensures { result ≡ each task_count (λ i. has_sound_mask (task_of (view s.now) i)) }
 {
-    let mut all = true;
-    let mut i = 0;
-    while i < layout::TASKS {
-        all = has_right_mask(s, i) & all;
-        i += 1;
-    }
-    all
+    every(layout::TASKS, |i| has_right_mask(s, i))
 }
 
 // Every number of 32 bits is a message.
-fn has_right_message(s: &[u8], i: usize) -> bool
-    requires { (i < task_count) × Image s.now }
+fn has_right_message(s: &Image, i: usize) -> bool
+    requires { i < task_count }
     ensures { result ≡ has_sound_message (task_of (view s.now) i) }
 {
     let used = table::tasks::get_used(s, i);
@@ -177,22 +150,14 @@ fn has_right_message(s: &[u8], i: usize) -> bool
 }
 
 // The messages. In the loop of the masks, which go by the state, they would take twice as many instructions.
-fn are_messages_right(s: &[u8]) -> bool
-    requires { Image s.now }
+fn are_messages_right(s: &Image) -> bool
     ensures { result ≡ each task_count (λ i. has_sound_message (task_of (view s.now) i)) }
 {
-    let mut all = true;
-    let mut i = 0;
-    while i < layout::TASKS {
-        all = has_right_message(s, i) & all;
-        i += 1;
-    }
-    all
+    every(layout::TASKS, |i| has_right_message(s, i))
 }
 
 // Each task by itself, and no mark is due.
-pub fn are_tasks_right(s: &[u8]) -> bool
-    requires { Image s.now }
+pub(crate) fn are_tasks_right(s: &Image) -> bool
     ensures { result ≡ are_tasks_sound (view s.now) }
 {
     are_fields_right(s)

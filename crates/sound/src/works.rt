@@ -1,31 +1,31 @@
 // The working priorities, held against those worked out afresh for all tasks together.
 ghost use Rattle.std.specs.Prelude.{◌≡◌};
 ghost use Rattle.rules.specs.Sound.{is_worked_out};
-ghost use Rattle.table.specs.Image.{Image, view};
+ghost use Rattle.table.specs.Image.{view};
 ghost use Rattle.chain.specs.Given.{Given};
 
+use crate::every::every;
+use chain::Priorities;
 use table::layout;
+use table::layout::Image;
 
-fn are_works(s: &[u8], given: &[u8]) -> bool
-    requires { Image s.now × Given (view s.now) given.now }
+// In place of a priority: nobody waits for what this task holds. Behind all levels, as `chain` asks.
+const NONE_GIVEN: u8 = 255;
+
+#[tactic(auto, unfolding(rules::specs::Sound::is_worked_out))]
+fn are_works(s: &Image, given: &Priorities) -> bool
+    requires { Given (view s.now) given.now }
     ensures { result ≡ is_worked_out (view s.now) }
 {
-    let mut all = true;
-    let mut i = 0;
-    while i < layout::TASKS {
-        let work = table::tasks::get_work(s, i);
-        let fresh = chain::fresh_of(s, given, i);
-        all = (work == fresh) & all;
-        i += 1;
-    }
-    all
+    every(layout::TASKS, |i| {
+        table::tasks::get_work(s, i) == chain::fresh_of(s, given, i)
+    })
 }
 
-pub fn are_works_right(s: &[u8]) -> bool
-    requires { Image s.now }
+pub fn are_works_right(s: &Image) -> bool
     ensures { result ≡ is_worked_out (view s.now) }
 {
-    let mut given = [255u8; 32];
+    let mut given = [NONE_GIVEN; layout::TASKS];
     chain::carry_all(s, &mut given);
     are_works(s, &given)
 }

@@ -2,7 +2,7 @@
 // on. What fails is answered, and its error says why.
 #![tactic(auto)]
 
-ghost use Rattle.std.specs.Prelude.{◌≡◌, ◌≢◌, ◌≤◌, ◌⊎◌, ◌↔◌, length, IfOk, IfErr, IsNone, IsSome, OnOk, IsTrue};
+ghost use Rattle.std.specs.Prelude.{◌≡◌, ◌≢◌, ◌≤◌, ◌⊎◌, ◌↔◌, length, IfOk, IfErr, IsErrAnd, IsNone, IsSome, OnOk, IsTrue};
 ghost use Rattle.std.specs.Io.KnownBytes.{Appends, ReadConsumes, WriteAppends};
 ghost use Rattle.std.specs.IoError.{error_kind};
 ghost use Rattle.std.specs.Process.{exit_status};
@@ -19,10 +19,13 @@ fn pause(clock: &impl Clock) {
     thread::sleep(clock, Duration::from_millis(1));
 }
 
-// Whether a call that failed so is to be made again: a signal came before it moved a byte, or it can move none yet.
-fn goes_on(clock: &impl Clock, error: &Error) -> bool
-    ensures { IsTrue result ↔ ((error_kind error.now ≡ ErrorKind.WouldBlock) ⊎ (error_kind error.now ≡ ErrorKind.Interrupted)) }
+// Whether a call is to be made again: a signal came before it moved a byte, or it can move none yet.
+fn goes_on(clock: &impl Clock, moved: &Result<usize>) -> bool
+    ensures { IsTrue result ↔ IsErrAnd moved.now (λ e. (error_kind e ≡ ErrorKind.WouldBlock) ⊎ (error_kind e ≡ ErrorKind.Interrupted)) }
 {
+    let Err(error) = moved else {
+        return false;
+    };
     let kind = error.kind();
     if kind == ErrorKind::WouldBlock {
         pause(clock);
@@ -40,31 +43,24 @@ pub fn read_some<C: Clock, R: Read>(clock: &C, tape: &mut R, buf: &mut [u8]) -> 
     ensures retried { IfErr result (λ e. error_kind e ≢ ErrorKind.Interrupted) }
 {
     for _ in 0..u64::MAX {
-        match tape.read(buf) {
-            Ok(n) => return Ok(n),
-            Err(e) => {
-                if !goes_on(clock, &e) {
-                    return Err(e);
-                }
-            }
+        let moved = tape.read(buf);
+        if !goes_on(clock, &moved) {
+            return moved;
         }
     }
     Err(Error::from(ErrorKind::TimedOut))
 }
 
-// As `Write::write`, in the same way.
+// As `Write::write`, in the same way. One loop for both would take the call as a closure, and what a closure leaves in the stream that it
+// borrows is not known to its caller.
 fn write_some<C: Clock, W: Write>(clock: &C, to: &mut W, buf: &[u8]) -> Result<usize>
     ensures moved { IfOk result (λ n. n ≤ length buf.now) }
     ensures bytes { WriteAppends (W.contents to.old) (W.contents to.new) result buf.now }
 {
     for _ in 0..u64::MAX {
-        match to.write(buf) {
-            Ok(n) => return Ok(n),
-            Err(e) => {
-                if !goes_on(clock, &e) {
-                    return Err(e);
-                }
-            }
+        let moved = to.write(buf);
+        if !goes_on(clock, &moved) {
+            return moved;
         }
     }
     Err(Error::from(ErrorKind::TimedOut))
@@ -91,10 +87,9 @@ const STANDARD_OUTPUT: &str = "/proc/self/fd/1";
 fn reopened(rt: &HostRuntime) -> Result<File> {
     let mut options = OpenOptions::new();
     options.append(true);
-    match options.open(rt, STANDARD_OUTPUT) {
-        Ok(file) => Ok(file),
-        Err(_) => File::open(rt, STANDARD_OUTPUT),
-    }
+    options
+        .open(rt, STANDARD_OUTPUT)
+        .or_else(|_| File::open(rt, STANDARD_OUTPUT))
 }
 
 // Has the system write down what it took, where that is a file: there are disks that say only here that they are full. std closes standard
@@ -162,11 +157,7 @@ impl Output {
     pub fn end(self, what: &str) -> ExitCode
         ensures { IsSome self.failure → exit_status result ≡ 1 }
     {
-        let failure = match self.failure {
-            Some(e) => Some(e),
-            None => settle(&self.rt).err(),
-        };
-        match failure {
+        match self.failure.or_else(|| settle(&self.rt).err()) {
             Some(e) => fail(&self.rt, what, e),
             None => ExitCode::SUCCESS,
         }
@@ -193,8 +184,6 @@ fn say_failure<D: Display + Drop>(rt: &HostRuntime, what: D, why: Error) -> Resu
 
 // The system's words for an error: std puts its number behind them.
 fn without_number(text: &str) -> &str {
-    match text.rsplit_once(" (os error ") {
-        Some((words, _)) => words,
-        None => text,
-    }
+    text.rsplit_once(" (os error ")
+        .map_or(text, |(words, _)| words)
 }

@@ -1,4 +1,5 @@
 pub mod kinds
+pub mod Beyond
 pub mod Image
 pub mod Queues
 pub mod Messages

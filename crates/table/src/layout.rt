@@ -1,4 +1,5 @@
-// Where things stand in the image: each column begins behind the one before. docs/IMAGE.md has the reasons.
+// Where things stand in the image: each column begins behind the one before. docs/IMAGE.md has the reasons. A column for each field and no record
+// for each task, since C keeps these bytes and loads them again.
 
 // How many there are of each.
 pub const TASKS: usize = 32;
@@ -105,3 +106,6 @@ pub const ROW: usize = 4 * MOST_MESSAGES;
 
 // How long an image is.
 pub const IMAGE_SIZE: usize = MESSAGES + ROW * CHANNELS;
+
+// The image: its length is in its type.
+pub type Image = [u8; IMAGE_SIZE];

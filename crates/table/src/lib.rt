@@ -2,6 +2,7 @@
 #![tactic(auto)]
 
 pub mod channels;
+pub mod families;
 pub mod fresh;
 pub mod groups;
 pub mod layout;

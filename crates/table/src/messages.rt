@@ -5,25 +5,22 @@ ghost use Rattle.std.specs.Prelude.{◌≡◌, [], ◌∷◌, ◌++◌, ◌≤�
 ghost use Rattle.rules.specs.Sizes.{channel_count, most_messages};
 ghost use Rattle.rules.specs.Table.{row_of, with_row};
 ghost use Rattle.rules.specs.Messages.{present, holding};
-ghost use Rattle.table.specs.Image.{Image, view};
+ghost use Rattle.table.specs.Image.{view};
 
+use crate::layout::Image;
 use crate::{channels, layout};
 
 // How many there are.
-pub fn count_in(s: &[u8], c: usize) -> usize
-    requires { (c < channel_count) × Image s.now }
+pub fn count_in(s: &Image, c: usize) -> usize
+    requires { c < channel_count }
     ensures { (result ≡ length (present (view s.now) c)) × (result ≤ most_messages) }
 {
-    let held = channels::get_held(s, c) as usize;
-    if held < layout::MOST_MESSAGES {
-        return held;
-    }
-    layout::MOST_MESSAGES
+    (channels::get_held(s, c) as usize).min(layout::MOST_MESSAGES)
 }
 
 // The next one, 0 where there is none.
-pub fn first_of(s: &[u8], c: usize) -> u32
-    requires { (c < channel_count) × Image s.now }
+pub fn first_of(s: &Image, c: usize) -> u32
+    requires { c < channel_count }
     ensures { result ≡ get_or (present (view s.now) c) 0 0 }
 {
     if channels::get_held(s, c) == 0 {
@@ -33,8 +30,8 @@ pub fn first_of(s: &[u8], c: usize) -> u32
 }
 
 // Slot j of the row becomes v, if there is such a slot.
-fn put_slot(s: &mut [u8], c: usize, j: usize, v: u32)
-    requires { (c < channel_count) × Image s.old }
+fn put_slot(s: &mut Image, c: usize, j: usize, v: u32)
+    requires { c < channel_count }
     ensures { view s.new ≡ with_row c (set (row_of (view s.old) c) j v) (view s.old) }
 {
     if layout::MOST_MESSAGES <= j {
@@ -44,8 +41,8 @@ fn put_slot(s: &mut [u8], c: usize, j: usize, v: u32)
 }
 
 // The message v comes last.
-pub fn add_last(s: &mut [u8], c: usize, v: u32)
-    requires { (c < channel_count) × Image s.old }
+pub fn add_last(s: &mut Image, c: usize, v: u32)
+    requires { c < channel_count }
     ensures { view s.new ≡ holding c (present (view s.old) c ++ (v ∷ [])) (view s.old) }
 {
     let n = count_in(s, c);
@@ -54,26 +51,24 @@ pub fn add_last(s: &mut [u8], c: usize, v: u32)
 }
 
 // The message v comes first, and each of the others moves one further.
-pub fn add_first(s: &mut [u8], c: usize, v: u32)
-    requires { (c < channel_count) × Image s.old }
+pub fn add_first(s: &mut Image, c: usize, v: u32)
+    requires { c < channel_count }
     ensures { view s.new ≡ holding c (v ∷ present (view s.old) c) (view s.old) }
 {
     let n = count_in(s, c);
     let mut carry = v;
-    let mut i = 0;
-    while i < n {
+    for i in 0..n {
         let next = channels::get_message_at(s, c, i);
         channels::put_message_at(s, c, i, carry);
         carry = next;
-        i += 1;
     }
     put_slot(s, c, n, carry);
     channels::set_held(s, c, n as u8 + 1);
 }
 
 // The first message goes, if there is one, and each of the others moves one nearer.
-pub fn take_first(s: &mut [u8], c: usize)
-    requires { (c < channel_count) × Image s.old }
+pub fn take_first(s: &mut Image, c: usize)
+    requires { c < channel_count }
     ensures { view s.new ≡ holding c (drop 1 (present (view s.old) c)) (view s.old) }
 {
     let n = count_in(s, c);
@@ -81,11 +76,9 @@ pub fn take_first(s: &mut [u8], c: usize)
         return;
     }
     let last = n - 1;
-    let mut i = 0;
-    while i < last {
+    for i in 0..last {
         let next = channels::get_message_at(s, c, i + 1);
         channels::put_message_at(s, c, i, next);
-        i += 1;
     }
     channels::put_message_at(s, c, last, 0);
     channels::set_held(s, c, last as u8);
@@ -93,8 +86,8 @@ pub fn take_first(s: &mut [u8], c: usize)
 
 // Slot j becomes 0, by a store only where it is not: of a loop that always stores zeros compilers make a call of memset, and a board may have no
 // C library.
-fn empty_slot(s: &mut [u8], c: usize, j: usize)
-    requires { (c < channel_count) × (j < most_messages) × Image s.old }
+fn empty_slot(s: &mut Image, c: usize, j: usize)
+    requires { (c < channel_count) × (j < most_messages) }
     ensures { view s.new ≡ with_row c (set (row_of (view s.old) c) j 0) (view s.old) }
 {
     if channels::get_message_at(s, c, j) == 0 {
@@ -104,15 +97,13 @@ fn empty_slot(s: &mut [u8], c: usize, j: usize)
 }
 
 // All of them go.
-pub fn clear(s: &mut [u8], c: usize)
-    requires { (c < channel_count) × Image s.old }
+pub fn clear(s: &mut Image, c: usize)
+    requires { c < channel_count }
     ensures { view s.new ≡ holding c [] (view s.old) }
 {
     let n = count_in(s, c);
-    let mut i = 0;
-    while i < n {
+    for i in 0..n {
         empty_slot(s, c, i);
-        i += 1;
     }
     channels::set_held(s, c, 0);
 }

@@ -10,62 +10,56 @@ ghost use Rattle.rules.specs.Table.{queue_count, able_queue, task_of, queue_of, 
 ghost use Rattle.rules.specs.Family.{place_of};
 ghost use Rattle.rules.specs.Ready.{first_level};
 ghost use Rattle.rules.specs.Move.{leave, join, put, put_work, rotate, chosen};
-ghost use Rattle.table.specs.Image.{Image, slot_count, view};
+ghost use Rattle.table.specs.Image.{slot_count, view};
 ghost use Rattle.table.specs.Ready.{reworked_in};
 ghost use Rattle.table.specs.Settled.{settled};
 
+use crate::layout::Image;
 use crate::{layout, levels, numbers, tasks};
 
 // Whether task i is able.
-pub fn is_able(s: &[u8], i: usize) -> bool
-    requires { (i < task_count) × Image s.now }
+pub fn is_able(s: &Image, i: usize) -> bool
+    requires { i < task_count }
     ensures { result ≡ is_able (task_of (view s.now) i) }
 {
     let used = tasks::get_used(s, i);
     let state = tasks::get_state(s, i);
     let suspend = tasks::get_suspend(s, i);
-    (used == 1) & ((state == 0) & (suspend == 0))
+    (used == 1) & ((state == tasks::PLAIN) & (suspend == 0))
 }
 
 // The queue where task i stands: 0 that of the able tasks, then those of the semaphores, of the mutexes, of the groups and of the channels; QUEUES
-// or more for none.
-pub fn place_of(s: &[u8], i: usize) -> usize
-    requires { (i < task_count) × Image s.now }
+// or more for none. It is no Option, since in an image that is not sound an object's number may be any, and places are compared as numbers.
+pub fn place_of(s: &Image, i: usize) -> usize
+    requires { i < task_count }
     ensures { result ≡ place_of (task_of (view s.now) i) }
 {
     if is_able(s, i) {
-        return 0;
+        return layout::ABLE_QUEUE;
     }
-    let state = tasks::get_state(s, i);
-    let object = tasks::get_object(s, i);
-    if state == 2 {
-        return layout::SEMAPHORE_QUEUE + object as usize;
+    let object = tasks::get_object(s, i) as usize;
+    match tasks::get_state(s, i) {
+        tasks::WAITS_SEMAPHORE => layout::SEMAPHORE_QUEUE + object,
+        tasks::WAITS_MUTEX => layout::MUTEX_QUEUE + object,
+        tasks::WAITS_FLAGS => layout::GROUP_QUEUE + object,
+        tasks::WAITS_MESSAGE => layout::CHANNEL_QUEUE + object,
+        _ => layout::QUEUES,
     }
-    if state == 3 {
-        return layout::MUTEX_QUEUE + object as usize;
-    }
-    if state == 4 {
-        return layout::GROUP_QUEUE + object as usize;
-    }
-    if state == 5 {
-        return layout::CHANNEL_QUEUE + object as usize;
-    }
-    layout::QUEUES
 }
 
 // The slots of queue q without task i.
-fn remove_in(s: &mut [u8], q: usize, i: usize)
-    requires { (i < task_count) × (q < queue_count) × Image s.old }
+fn remove_in(s: &mut Image, q: usize, i: usize)
+    requires { (i < task_count) × (q < queue_count) }
     ensures { view s.new ≡ with_queue q (without i (queue_of (view s.old) q)) (view s.old) }
 {
     let a = layout::QUEUE + layout::SLOTS * q;
     let e = a + layout::SLOTS;
-    queue::remove(&mut s[a..e], i as u8);
+    let _ = queue::remove(&mut s[a..e], i as u8);
 }
 
 // Task i leaves the able queue, where it stands in slot `at`. The word asks who stands beside it, so it comes first.
-fn leave_from(s: &mut [u8], i: usize, at: usize)
-    requires { (i < task_count) × (at ≤ slot_count) × (at ≡ place_in i (queue_of (view s.old) able_queue)) × Image s.old }
+fn leave_from(s: &mut Image, i: usize, at: usize)
+    requires { (i < task_count) × (at ≤ slot_count) × (at ≡ place_in i (queue_of (view s.old) able_queue)) }
     ensures { view s.new ≡ leave able_queue i (view s.old) }
 {
     levels::drop_at(s, i, at);
@@ -75,8 +69,8 @@ fn leave_from(s: &mut [u8], i: usize, at: usize)
 }
 
 // Task i leaves the able queue. One search serves the word and the slots, and none is made where it is the first, as the running task mostly is.
-fn leave_able(s: &mut [u8], i: usize)
-    requires { (i < task_count) × Image s.old }
+fn leave_able(s: &mut Image, i: usize)
+    requires { i < task_count }
     ensures { view s.new ≡ leave able_queue i (view s.old) }
 {
     if slot_in(s, layout::ABLE_QUEUE, 0) as usize == i + 1 {
@@ -88,8 +82,8 @@ fn leave_able(s: &mut [u8], i: usize)
 }
 
 // Task i leaves queue q, if there is such a queue.
-pub fn leave_queue(s: &mut [u8], q: usize, i: usize)
-    requires { (i < task_count) × Image s.old }
+pub fn leave_queue(s: &mut Image, q: usize, i: usize)
+    requires { i < task_count }
     ensures { view s.new ≡ leave q i (view s.old) }
 {
     if layout::QUEUES <= q {
@@ -103,8 +97,8 @@ pub fn leave_queue(s: &mut [u8], q: usize, i: usize)
 }
 
 // Where task i goes in queue q, before its equals or behind them: the queue and the keys are two parts of one slice.
-fn place_in(s: &[u8], q: usize, i: usize, ahead: bool) -> usize
-    requires { (i < task_count) × (q < queue_count) × Image s.now }
+fn place_in(s: &Image, q: usize, i: usize, ahead: bool) -> usize
+    requires { (i < task_count) × (q < queue_count) }
     ensures { result ≡ place_from (works (view s.now)) (limit ahead (get_or (works (view s.now)) i 0)) (queue_of (view s.now) q) }
 {
     let a = layout::QUEUE + layout::SLOTS * q;
@@ -119,8 +113,8 @@ fn place_in(s: &[u8], q: usize, i: usize, ahead: bool) -> usize
 }
 
 // The slots of queue q with task i before its equals, or behind them.
-fn insert_in(s: &mut [u8], q: usize, i: usize, ahead: bool)
-    requires { (i < task_count) × (q < queue_count) × Image s.old }
+fn insert_in(s: &mut Image, q: usize, i: usize, ahead: bool)
+    requires { (i < task_count) × (q < queue_count) }
     ensures { view s.new ≡ with_queue q (entered ahead (works (view s.old)) i (queue_of (view s.old) q)) (view s.old) }
 {
     let a = layout::QUEUE + layout::SLOTS * q;
@@ -130,8 +124,8 @@ fn insert_in(s: &mut [u8], q: usize, i: usize, ahead: bool)
 }
 
 // Task i goes before its equals in queue q, or behind them, if there is such a queue.
-fn enter_queue(s: &mut [u8], q: usize, i: usize, ahead: bool)
-    requires { (i < task_count) × Image s.old }
+fn enter_queue(s: &mut Image, q: usize, i: usize, ahead: bool)
+    requires { i < task_count }
     ensures { view s.new ≡ join ahead q i (view s.old) }
 {
     if layout::QUEUES <= q {
@@ -142,16 +136,16 @@ fn enter_queue(s: &mut [u8], q: usize, i: usize, ahead: bool)
 }
 
 // Task i arrives in queue q, behind its equals.
-pub fn join_queue(s: &mut [u8], q: usize, i: usize)
-    requires { (i < task_count) × Image s.old }
+pub fn join_queue(s: &mut Image, q: usize, i: usize)
+    requires { i < task_count }
     ensures { view s.new ≡ join false q i (view s.old) }
 {
     enter_queue(s, q, i, false);
 }
 
 // Where task i stands in queue q, with no free slot before it, or SLOTS.
-fn packed_in(s: &[u8], q: usize, i: usize) -> usize
-    requires { (i < task_count) × (q < queue_count) × Image s.now }
+fn packed_in(s: &Image, q: usize, i: usize) -> usize
+    requires { (i < task_count) × (q < queue_count) }
     ensures { result ≡ packed_at (i + 1) (queue_of (view s.now) q) }
 {
     let a = layout::QUEUE + layout::SLOTS * q;
@@ -160,8 +154,8 @@ fn packed_in(s: &[u8], q: usize, i: usize) -> usize
 }
 
 // The same, with the slot `at`, its own, not counted.
-fn place_again(s: &[u8], q: usize, i: usize, at: usize, ahead: bool) -> usize
-    requires { (i < task_count) × (q < queue_count) × Image s.now }
+fn place_again(s: &Image, q: usize, i: usize, at: usize, ahead: bool) -> usize
+    requires { (i < task_count) × (q < queue_count) }
     ensures { result ≡ place_from (works (view s.now)) (limit ahead (get_or (works (view s.now)) i 0)) (lifted at (queue_of (view s.now) q)) }
 {
     let a = layout::QUEUE + layout::SLOTS * q;
@@ -178,8 +172,8 @@ fn place_again(s: &[u8], q: usize, i: usize, at: usize, ahead: bool) -> usize
 
 // The slots of queue q with task i before its equals, or behind them, from slot `at`, where it stands with no free slot before it. Only those
 // between the two places move.
-fn slide_in(s: &mut [u8], q: usize, i: usize, at: usize, ahead: bool)
-    requires { (i < task_count) × (q < queue_count) × (at < slot_count) × (at ≡ packed_at (i + 1) (queue_of (view s.old) q)) × Image s.old }
+fn slide_in(s: &mut Image, q: usize, i: usize, at: usize, ahead: bool)
+    requires { (i < task_count) × (q < queue_count) × (at < slot_count) × (at ≡ packed_at (i + 1) (queue_of (view s.old) q)) }
     ensures { view s.new ≡ with_queue q (replaced ahead (works (view s.old)) i (queue_of (view s.old) q)) (view s.old) }
 {
     let to = place_again(s, q, i, at, ahead);
@@ -190,8 +184,8 @@ fn slide_in(s: &mut [u8], q: usize, i: usize, at: usize, ahead: bool)
 
 // The slots of queue q with task i behind its equals, from where it stands. With a free slot before it, as in no queue that is packed, a slide
 // would leave something else.
-fn move_in(s: &mut [u8], q: usize, i: usize)
-    requires { (i < task_count) × (q < queue_count) × Image s.old }
+fn move_in(s: &mut Image, q: usize, i: usize)
+    requires { (i < task_count) × (q < queue_count) }
     ensures { view s.new ≡ with_queue q (moved (works (view s.old)) i (queue_of (view s.old) q)) (view s.old) }
 {
     let at = packed_in(s, q, i);
@@ -205,8 +199,8 @@ fn move_in(s: &mut [u8], q: usize, i: usize)
 
 // Task i, whose fields were stored, but for its working priority, stood in queue q: where its place is another now, it leaves q and
 // goes behind its equals in its own.
-pub fn settle(s: &mut [u8], i: usize, q: usize)
-    requires { (i < task_count) × Image s.old }
+pub fn settle(s: &mut Image, i: usize, q: usize)
+    requires { i < task_count }
     ensures { view s.new ≡ settled q i (view s.old) }
 {
     let new = place_of(s, i);
@@ -217,8 +211,8 @@ pub fn settle(s: &mut [u8], i: usize, q: usize)
     join_queue(s, new, i);
 }
 
-fn put_in(s: &mut [u8], i: usize, k: rules::Task)
-    requires { (i < task_count) × Image s.old }
+fn put_in(s: &mut Image, i: usize, k: rules::Task)
+    requires { i < task_count }
     ensures { view s.new ≡ put i k (view s.old) }
 {
     let q = place_of(s, i);
@@ -237,8 +231,7 @@ fn put_in(s: &mut [u8], i: usize, k: rules::Task)
 
 // Task i becomes k. Where its place or its working priority changes, it leaves its queue and comes into the other, before its equals where it is
 // raised and else behind them.
-pub fn put_task(s: &mut [u8], i: usize, k: rules::Task)
-    requires { Image s.old }
+pub fn put_task(s: &mut Image, i: usize, k: rules::Task)
     ensures { view s.new ≡ put i k (view s.old) }
 {
     if layout::TASKS <= i {
@@ -248,8 +241,8 @@ pub fn put_task(s: &mut [u8], i: usize, k: rules::Task)
 }
 
 // Task i is free again: it leaves its queue, and its record is that of a free number.
-pub fn clear_task(s: &mut [u8], i: usize)
-    requires { (i < task_count) × Image s.old }
+pub fn clear_task(s: &mut Image, i: usize)
+    requires { i < task_count }
     ensures { view s.new ≡ put i no_task (view s.old) }
 {
     let q = place_of(s, i);
@@ -259,8 +252,8 @@ pub fn clear_task(s: &mut [u8], i: usize)
 
 // The working priority of task i, which stands in queue q, becomes p, and the task goes before its equals or behind them. One search serves the
 // word and the slots; where a free slot stands before the task, it leaves and comes in again.
-fn rework_in(s: &mut [u8], q: usize, i: usize, p: u8, ahead: bool)
-    requires { (i < task_count) × (q < queue_count) × Image s.old }
+fn rework_in(s: &mut Image, q: usize, i: usize, p: u8, ahead: bool)
+    requires { (i < task_count) × (q < queue_count) }
     ensures { view s.new ≡ reworked_in ahead q i p (view s.old) }
 {
     let at = packed_in(s, q, i);
@@ -277,8 +270,8 @@ fn rework_in(s: &mut [u8], q: usize, i: usize, p: u8, ahead: bool)
 }
 
 // The working priority of task i becomes p; raised, the task goes before its equals, and lowered behind them.
-pub fn rework_task(s: &mut [u8], i: usize, p: u8)
-    requires { (i < task_count) × Image s.old }
+pub fn rework_task(s: &mut Image, i: usize, p: u8)
+    requires { i < task_count }
     ensures { view s.new ≡ put_work (view s.old) i p }
 {
     let old = tasks::get_work(s, i);
@@ -293,8 +286,8 @@ pub fn rework_task(s: &mut [u8], i: usize, p: u8)
     rework_in(s, q, i, p, p < old);
 }
 
-fn rotate_in(s: &mut [u8], i: usize)
-    requires { (i < task_count) × Image s.old }
+fn rotate_in(s: &mut Image, i: usize)
+    requires { i < task_count }
     ensures { view s.new ≡ rotate i (view s.old) }
 {
     let quantum = tasks::get_quantum(s, i);
@@ -303,8 +296,7 @@ fn rotate_in(s: &mut [u8], i: usize)
 }
 
 // The able task i goes behind its equals, and has its whole quantum again.
-pub fn rotate_task(s: &mut [u8], i: usize)
-    requires { Image s.old }
+pub fn rotate_task(s: &mut Image, i: usize)
     ensures { view s.new ≡ rotate i (view s.old) }
 {
     if layout::TASKS <= i {
@@ -313,9 +305,8 @@ pub fn rotate_task(s: &mut [u8], i: usize)
     rotate_in(s, i);
 }
 
-// The task in front of queue q: its number plus 1, 0 where the queue is empty or there is none.
-pub fn first_in(s: &[u8], q: usize) -> u8
-    requires { Image s.now }
+// The task in front of queue q: its number plus 1, 0 where the queue is empty or there is none. It is the slot's byte, as C reads it too.
+pub fn first_in(s: &Image, q: usize) -> u8
     ensures { result ≡ first_in q (view s.now) }
 {
     if layout::QUEUES <= q {
@@ -325,16 +316,15 @@ pub fn first_in(s: &[u8], q: usize) -> u8
 }
 
 // Slot j of queue q, in the same way.
-pub fn slot_in(s: &[u8], q: usize, j: usize) -> u8
-    requires { (q < queue_count) × (j < slot_count) × Image s.now }
+pub fn slot_in(s: &Image, q: usize, j: usize) -> u8
+    requires { (q < queue_count) × (j < slot_count) }
     ensures { result ≡ get_or (queue_of (view s.now) q) j 0 }
 {
     s[layout::QUEUE + layout::SLOTS * q + j]
 }
 
 // The first able task, its number plus 1: the first level's first is the front of the able queue. 0 where no level has one.
-fn first_ready(s: &[u8]) -> u8
-    requires { Image s.now }
+fn first_ready(s: &Image) -> u8
     ensures { result ≡ cond (eqb (first_level (view s.now).ready) level_count) 0 (first_in able_queue (view s.now)) }
 {
     if levels::first_level(s) == levels::LEVELS as u32 {
@@ -344,8 +334,7 @@ fn first_ready(s: &[u8]) -> u8
 }
 
 // At depth 0 the first able task runs.
-pub fn choose(s: &mut [u8])
-    requires { Image s.old }
+pub fn choose(s: &mut Image)
     ensures { view s.new ≡ chosen (view s.old) }
 {
     let d = numbers::get_depth(s);

@@ -1,2 +1,2 @@
-mod Little
+mod Bytes
 mod Numbers

@@ -1,6 +1,9 @@
 -- One line of a tape's text, and what it is to write it.
 use Rattle.std.specs.Prelude.{Bool, true, false, cond, ◌≡◌, refl, List, [], ◌∷◌, ◌++◌, ℕ, ◌+◌, ◌-◌, ◌/◌, ◌%◌, ◌≤◌, eqb, ltb, leb, length, take, drop}
 use Rattle.std.proofs.Common.{sym, append_assoc, add-zero, arith, leb-true, le-leb, length-append, take_at, drop-drop, length-take-le}
+use Rattle.std.proofs.Common.{ap, ◌∙◌, take_all}
+use borrow.Rule.Slice.PartMut.{put_mid}
+use Rattle.std.proofs.lemmas.Slice.{put_mid-paste}
 use Rattle.std.proofs.lemmas.List.Edits.{sets, sets-eq}
 use Rattle.std.proofs.Math.Seq.{paste-zero, drop-append-add}
 use Rattle.rules.specs.Tape.{decimal, runner, line, bad_line}
@@ -56,6 +59,14 @@ wrote_nothing at l = record { list = pasted-nothing at l; ends = sym (add-zero a
 pub wrote-bytes : (at : ℕ) (text l : List ℕ) → at + length text ≤ length l → Wrote at text l (sets l at text) (at + length text)
 unfolding pasted
 wrote-bytes at text l h = record { list = sets-eq text l at h; ends = refl }
+
+-- And so is what was copied into its place.
+pub wrote-part : (at k : ℕ) (text part l : List ℕ) → k ≡ length text → part ≡ text → Wrote at text l (put_mid at k l part) (at + length text)
+unfolding pasted
+wrote-part at k text part l e p = record {
+  list = put_mid-paste at k l part text (length text) p (sym e) refl ∙ ap (λ (t : List ℕ). take at l ++ t ++ drop (at + length text) l) (take_all (length text) text (omega arith));
+  ends = refl;
+}
 
 -- ---- what fits
 

@@ -1,5 +1,5 @@
 -- A part of a tape played: as many calls as stand there whole and find room for their lines.
-use Rattle.std.specs.Prelude.{Bool, true, false, cond, ◌≡◌, List, [], ◌++◌, ltb, length, drop}
+use Rattle.std.specs.Prelude.{Bool, Ok, Err, true, false, cond, ◌≡◌, List, [], ◌++◌, ltb, length, drop}
 use Rattle.std.proofs.Math.Path.{refl}
 use Prim.Native.Nat.{ℕ, zero, suc, ◌-◌, ◌≤◌, ◌<◌}
 use Rattle.std.proofs.Common.{lt-ltb, le-ltb}
@@ -7,9 +7,8 @@ use Rattle.rules.specs.Table.{Table}
 use Rattle.rules.specs.Step.{Outcome}
 use Rattle.rules.specs.Tape.{line}
 use Rattle.rules.specs.declared.Call.{Call}
-use Rattle.tape.specs.Next.{next_in}
-use Rattle.tape.specs.declared.Next.{Next}
-use Rattle.tape.specs.declared.Next.TheVariants.{Whole, Cut, NoKind, End}
+use Rattle.tape.specs.Next.{Next, next_in}
+use Rattle.tape.specs.declared.Stop.TheVariants.{Cut, NoKind, End}
 
 -- What playing leaves: the table, the text written, the tape that is left, and whether it stopped at a kind that the list lacks.
 pub record Played : Type 0 where
@@ -27,10 +26,10 @@ behind text p = record { table = p.table; text = text ++ p.text; rest = p.rest; 
 
 -- One turn: what a call leaves is played on, anything else stops.
 unfoldable pub plays_on : (Call → Bool → Table → Outcome) → Table → List ℕ → (Outcome → ℕ → Played) → Next → Played
-plays_on serves t l on (Whole c interrupt n) = on (serves c interrupt t) n
-plays_on serves t l on Cut = stopped false t l
-plays_on serves t l on NoKind = stopped true t l
-plays_on serves t l on End = stopped false t l
+plays_on serves t l on (Ok w) = on (serves w.call w.interrupt t) w.length
+plays_on serves t l on (Err Cut) = stopped false t l
+plays_on serves t l on (Err NoKind) = stopped true t l
+plays_on serves t l on (Err End) = stopped false t l
 
 -- The tape l played from the table t, for n calls at most, while 6 bytes are left of the room, where `serves` is what a call does.
 unfoldable pub plays : (Call → Bool → Table → Outcome) → (n room : ℕ) → Table → List ℕ → Played

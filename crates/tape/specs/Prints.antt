@@ -1,5 +1,5 @@
 -- Playing a tape by parts prints what the whole tape prints.
-use Rattle.std.specs.Prelude.{Bool, cond, ltb}
+use Rattle.std.specs.Prelude.{Bool, Option, Some, None, Ok, Err, cond, ltb}
 use Rattle.std.proofs.Math.Bool.{true, false}
 use Rattle.std.proofs.Math.Path.{◌≡◌, refl, ap, fun_ext}
 use Rattle.std.proofs.Common.{sym, ◌∙◌, length-append}
@@ -10,34 +10,47 @@ use Rattle.std.proofs.Math.ListN.{length, drop, length-drop}
 use Rattle.std.proofs.lemmas.List.{drop-append-le}
 use borrow.Author.Tests.{ltb-true, ltb-false, le-ltb}
 use Rattle.kinds.specs.Body.{call_append}
-use Rattle.rules.specs.Kinds.{reading}
+use Rattle.rules.specs.Kinds.{says_call, reading}
 use Rattle.rules.specs.Table.{Table}
 use Rattle.rules.specs.Step.{Outcome}
 use Rattle.rules.specs.Tape.{line, bad_line, body_length, call_in, printed, printed_of}
 use Rattle.rules.specs.declared.Call.{Call}
 use Rattle.rules.specs.declared.Reading.{Reading}
-use Rattle.rules.specs.declared.Reading.TheVariants.{Says, Unknown}
 use Rattle.tape.specs.Line.{line_of_lem, line-short}
-use Rattle.tape.specs.Next.{next_of, next_in, is_bad, is_whole, next_kind, next_behind}
+use Rattle.tape.specs.Next.{Next, whole, next_of, next_in, is_bad, is_whole, next_kind, next_behind}
 use Rattle.tape.specs.Play.{Played, stopped, behind, plays_on, plays}
-use Rattle.tape.specs.declared.Next.{Next}
-use Rattle.tape.specs.declared.Next.TheVariants.{Whole, Cut, NoKind, End}
+use Rattle.tape.specs.declared.Whole.{Whole}
+use Rattle.tape.specs.declared.Stop.TheVariants.{Cut, NoKind, End}
 
 -- ---- what a start of a tape says
 
-whole_of : (r : Reading) (cut : Bool) (n : ℕ) {c : Call} {i : Bool} {m : ℕ} → next_of r cut n ≡ Whole c i m → (r ≡ Says c i) × (cut ≡ false) × (n ≡ m)
-unfolding next_of
-whole_of (Unknown i) cut n e = (cc, cc, cc)
-whole_of (Says c i) true n e = (cc, cc, cc)
-whole_of (Says c i) false n e = (cc, cc, cc)
+whole_in : Whole → Next → Whole
+whole_in other (Ok w) = w
+whole_in other (Err e) = other
 
-no_kind_of : (r : Reading) (cut cut' : Bool) (n m : ℕ) → next_of r cut n ≡ NoKind → next_of r cut' m ≡ NoKind
-unfolding next_of
-no_kind_of (Unknown i) cut cut' n m e = refl
-no_kind_of (Says c i) true cut' n m e = cc
-no_kind_of (Says c i) false cut' n m e = cc
+whole_of : (r : Reading) (cut : Bool) (n : ℕ) {c : Call} {i : Bool} {m : ℕ} → next_of r cut n ≡ whole c i m → (r ≡ says_call c i) × (cut ≡ false) × (n ≡ m)
+unfolding next_of whole_in
+whole_of r cut n {c} {i} {m} = go r.call cut
+  where
+    go : (call : Option Call) (cut : Bool) → let said : Reading = record { call = call; interrupt = r.interrupt } in
+        next_of said cut n ≡ whole c i m → (said ≡ says_call c i) × (cut ≡ false) × (n ≡ m)
+    go None cut e = (cc, cc, cc)
+    go (Some d) true e = (cc, cc, cc)
+    go (Some d) false e =
+        let w = ap (whole_in (record { call = d; interrupt = r.interrupt; length = n })) e in
+        (ap (λ (w : Whole). says_call w.call w.interrupt) w, refl, ap (λ (w : Whole). w.length) w)
 
-pub whole-within : (l : List ℕ) {c : Call} {i : Bool} {n : ℕ} → next_in l ≡ Whole c i n → (0 < n) × (n ≤ length l)
+no_kind_of : (r : Reading) (cut cut' : Bool) (n m : ℕ) → next_of r cut n ≡ Err NoKind → next_of r cut' m ≡ Err NoKind
+unfolding next_of
+no_kind_of r cut cut' n m = go r.call cut
+  where
+    go : (call : Option Call) (cut : Bool) → let said : Reading = record { call = call; interrupt = r.interrupt } in
+        next_of said cut n ≡ Err NoKind → next_of said cut' m ≡ Err NoKind
+    go None cut e = refl
+    go (Some d) true e = cc
+    go (Some d) false e = cc
+
+pub whole-within : (l : List ℕ) {c : Call} {i : Bool} {n : ℕ} → next_in l ≡ whole c i n → (0 < n) × (n ≤ length l)
 unfolding next_in
 whole-within [] e = let z : ◌≡◌ {A = ℕ} 0 1 = cc in omega arith
 whole-within (kind ∷ body) e =
@@ -45,7 +58,7 @@ whole-within (kind ∷ body) e =
     omega (arith, ltb-false (length body) (body_length kind) w.1)
 
 -- With more behind it, a whole call is the same call.
-pub whole_more : (l more : List ℕ) {c : Call} {i : Bool} {n : ℕ} → next_in l ≡ Whole c i n → next_in (l ++ more) ≡ Whole c i n
+pub whole_more : (l more : List ℕ) {c : Call} {i : Bool} {n : ℕ} → next_in l ≡ whole c i n → next_in (l ++ more) ≡ whole c i n
 unfolding next_in
 whole_more [] more e = cc
 whole_more (kind ∷ body) more e =
@@ -55,18 +68,21 @@ whole_more (kind ∷ body) more e =
     rw (call_append kind body more short, le-ltb _ _ long, ← w.1) e
 
 -- And so is a kind that the list lacks.
-pub no_kind_more : (l more : List ℕ) → next_in l ≡ NoKind → next_in (l ++ more) ≡ NoKind
+pub no_kind_more : (l more : List ℕ) → next_in l ≡ Err NoKind → next_in (l ++ more) ≡ Err NoKind
 unfolding next_in call_in reading
 no_kind_more [] more e = cc
 no_kind_more (kind ∷ body) more e = no_kind_of _ true _ 0 _ (next_kind _ _ _ _ _ _ ∙ no_kind_of _ _ true _ 0 e)
 
-never_end : (r : Reading) (cut : Bool) (n : ℕ) → next_of r cut n ≡ End → ◌≡◌ {A = ℕ} 0 1
+never_end : (r : Reading) (cut : Bool) (n : ℕ) → next_of r cut n ≡ Err End → ◌≡◌ {A = ℕ} 0 1
 unfolding next_of
-never_end (Unknown i) cut n e = cc
-never_end (Says c i) true n e = cc
-never_end (Says c i) false n e = cc
+never_end r cut n = go r.call cut
+  where
+    go : (call : Option Call) (cut : Bool) → next_of (record { call = call; interrupt = r.interrupt }) cut n ≡ Err End → ◌≡◌ {A = ℕ} 0 1
+    go None cut e = cc
+    go (Some d) true e = cc
+    go (Some d) false e = cc
 
-pub end_empty : (l : List ℕ) → next_in l ≡ End → l ≡ []
+pub end_empty : (l : List ℕ) → next_in l ≡ Err End → l ≡ []
 unfolding next_in
 end_empty [] e = refl
 end_empty (kind ∷ body) e = let z = never_end _ _ _ e in cc
@@ -99,17 +115,21 @@ module _ (serves : Call → Bool → Table → Outcome) where
 
   -- ---- what is printed, by the tape's start
 
-  whole-printed : (t : Table) (cut : Bool) (rest : Table → List ℕ) (r : Reading) {c : Call} {i : Bool} → r ≡ Says c i → cut ≡ false → printed_of serves t cut rest r ≡ line (serves c i t) ++ rest (serves c i t).table
+  whole-printed : (t : Table) (cut : Bool) (rest : Table → List ℕ) (r : Reading) {c : Call} {i : Bool} → r ≡ says_call c i → cut ≡ false → printed_of serves t cut rest r ≡ line (serves c i t) ++ rest (serves c i t).table
   unfolding printed_of
   whole-printed t cut rest r e f = rw (e, f)
 
   bad_printed : (t : Table) (cut : Bool) (rest : Table → List ℕ) (r : Reading) (n : ℕ) → is_bad (next_of r cut n) ≡ true → printed_of serves t cut rest r ≡ bad_line
   unfolding printed_of next_of
-  bad_printed t cut rest (Unknown i) n e = refl
-  bad_printed t true rest (Says c i) n e = refl
-  bad_printed t false rest (Says c i) n e = cc
+  bad_printed t cut rest r n = go r.call cut
+    where
+      go : (call : Option Call) (cut : Bool) → let said : Reading = record { call = call; interrupt = r.interrupt } in
+          is_bad (next_of said cut n) ≡ true → printed_of serves t cut rest said ≡ bad_line
+      go None cut e = refl
+      go (Some d) true e = refl
+      go (Some d) false e = cc
 
-  pub prints-whole : (t : Table) (l : List ℕ) {c : Call} {i : Bool} {n : ℕ} → next_in l ≡ Whole c i n → let o = serves c i t in prints t l ≡ line o ++ prints o.table (drop n l)
+  pub prints-whole : (t : Table) (l : List ℕ) {c : Call} {i : Bool} {n : ℕ} → next_in l ≡ whole c i n → let o = serves c i t in prints t l ≡ line o ++ prints o.table (drop n l)
   unfolding next_in printed
   prints-whole t [] e = cc
   prints-whole t (kind ∷ body) {c} {i} {n} e =
@@ -129,30 +149,30 @@ module _ (serves : Call → Bool → Table → Outcome) where
   -- What holds of p, the tape l played from t, whatever more is behind l.
   record Right (n room : ℕ) (more : List ℕ) (t : Table) (l : List ℕ) (p : Played) : Type 0 where
     pub whole : p.text ++ prints p.table (p.rest ++ more) ≡ prints t (l ++ more)
-    pub lacks : p.ended ≡ true → next_in p.rest ≡ NoKind
+    pub lacks : p.ended ≡ true → next_in p.rest ≡ Err NoKind
     pub stops : length l ≤ n → 6 ≤ room - length p.text → is_whole (next_in p.rest) ≡ false
     pub short : length p.text + 6 * length p.rest ≤ 6 * length l
 
   module _ (n room : ℕ) (more : List ℕ) (t : Table) (l : List ℕ) where
-    stopped_right : (ended : Bool) → (ended ≡ true → next_in l ≡ NoKind) → (length l ≤ n → 6 ≤ room → is_whole (next_in l) ≡ false) → Right n room more t l (stopped ended t l)
+    stopped_right : (ended : Bool) → (ended ≡ true → next_in l ≡ Err NoKind) → (length l ≤ n → 6 ≤ room → is_whole (next_in l) ≡ false) → Right n room more t l (stopped ended t l)
     stopped_right ended e s = record { whole = refl; lacks = e; stops = λ h g. s h (omega arith); short = omega arith }
 
     going_right : (length l ≤ n → 6 ≤ room → is_whole (next_in l) ≡ false) → Right n room more t l (stopped false t l)
     going_right s = stopped_right false (λ e. cc) s
 
     on_right : (on : Outcome → ℕ → Played) (x : Next) → next_in l ≡ x
-        → ((c : Call) (i : Bool) (m : ℕ) → next_in l ≡ Whole c i m → Right n room more t l (on (serves c i t) m)) → Right n room more t l (plays_on serves t l on x)
+        → ((c : Call) (i : Bool) (m : ℕ) → next_in l ≡ whole c i m → Right n room more t l (on (serves c i t) m)) → Right n room more t l (plays_on serves t l on x)
     unfolding plays_on
-    on_right on (Whole c i m) e h = h c i m e
-    on_right on Cut e h = going_right (λ _ _. ap is_whole e)
-    on_right on NoKind e h = stopped_right true (λ _. e) (λ _ _. ap is_whole e)
-    on_right on End e h = going_right (λ _ _. ap is_whole e)
+    on_right on (Ok w) e h = h w.call w.interrupt w.length e
+    on_right on (Err Cut) e h = going_right (λ _ _. ap is_whole e)
+    on_right on (Err NoKind) e h = stopped_right true (λ _. e) (λ _ _. ap is_whole e)
+    on_right on (Err End) e h = going_right (λ _ _. ap is_whole e)
 
     either_right : (b : Bool) {x y : Played} → (b ≡ true → Right n room more t l x) → Right n room more t l y → Right n room more t l (cond b x y)
     either_right true p q = p refl
     either_right false p q = q
 
-    behind_right : {c : Call} {i : Bool} {m : ℕ} (p : Played) → next_in l ≡ Whole c i m
+    behind_right : {c : Call} {i : Bool} {m : ℕ} (p : Played) → next_in l ≡ whole c i m
         → let o = serves c i t in Right n (room - length (line o)) more o.table (drop m l) p → Right (suc n) room more t l (behind (line o) p)
     behind_right {c} {i} {m} p e r =
         let w = whole-within l e in

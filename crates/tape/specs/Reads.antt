@@ -1,5 +1,5 @@
 -- A tape that comes in reads, each played behind what the last left over, prints what the whole tape prints.
-use Rattle.std.specs.Prelude.{Bool, true, cond, ◌≡◌, ℕ, ◌*◌, ◌≤◌, ◌<◌, ltb}
+use Rattle.std.specs.Prelude.{Bool, Ok, Err, true, cond, ◌≡◌, ℕ, ◌*◌, ◌≤◌, ◌<◌, ltb}
 use Rattle.std.proofs.Math.Bool.{false}
 use Rattle.std.proofs.Common.{true≢false, sym, ◌∙◌, lt-ltb}
 use Rattle.std.proofs.Math.Path.{refl, ap}
@@ -10,20 +10,19 @@ use Rattle.rules.specs.Table.{Table}
 use Rattle.rules.specs.Step.{Outcome}
 use Rattle.rules.specs.Tape.{bad_line, printed}
 use Rattle.rules.specs.declared.Call.{Call}
-use Rattle.tape.specs.Next.{next_in, is_bad, is_whole}
+use Rattle.tape.specs.Next.{Next, next_in, is_bad, is_whole}
 use Rattle.tape.specs.Play.{Played, plays}
 use Rattle.tape.specs.Prints.{prints, end_empty, prints_bad, plays_more, plays-ended, plays-stops, plays-short}
-use Rattle.tape.specs.declared.Next.{Next}
-use Rattle.tape.specs.declared.Next.TheVariants.{Whole, Cut, NoKind, End}
+use Rattle.tape.specs.declared.Stop.TheVariants.{Cut, NoKind, End}
 
 left_bad : (l : List ℕ) → 0 < length l → is_whole (next_in l) ≡ false → is_bad (next_in l) ≡ true
 left_bad l h e = go (next_in l) refl
   where
     go : (x : Next) → next_in l ≡ x → is_bad (next_in l) ≡ true
-    go (Whole c i n) f = absurd (true≢false (sym (ap is_whole f) ∙ e))
-    go Cut f = ap is_bad f
-    go NoKind f = ap is_bad f
-    go End f = absurd (omega (arith, ap length (end_empty l f)))
+    go (Ok w) f = absurd (true≢false (sym (ap is_whole f) ∙ e))
+    go (Err Cut) f = ap is_bad f
+    go (Err NoKind) f = ap is_bad f
+    go (Err End) f = absurd (omega (arith, ap length (end_empty l f)))
 
 module _ (serves : Call → Bool → Table → Outcome) (room : ℕ → ℕ) where
   -- A part played, where n bytes have `room n` for their lines.

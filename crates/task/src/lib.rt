@@ -2,25 +2,33 @@
 #![tactic(auto)]
 
 ghost use Rattle.std.specs.Prelude.{◌≡◌, ◌&&◌, ◌<◌};
+ghost use Rattle.rules.specs.Sizes.{task_count, mutex_count};
 ghost use Rattle.rules.specs.Table.{task_of, with_suspend};
 ghost use Rattle.rules.specs.Move.{put, chosen, is_running};
 ghost use Rattle.rules.specs.Task.{is_locked, created, holds_below, create_answer, create, delete_answer, delete, priority_answer, change_priority, suspend_answer, suspend, resume_answer, resume};
-ghost use Rattle.table.specs.Image.{Image, view};
+ghost use Rattle.table.specs.Image.{view};
+ghost use Rattle.service.specs.Answers.{number_of};
 ghost use Rattle.service.specs.Served.{Served};
 
 use chain::walk;
-use table::{moves, mutexes, numbers, tasks};
+use service::answers::{Answer, Done, Refusal};
+use service::checks;
+use table::layout::Image;
+use table::{layout, moves, mutexes, numbers, tasks};
 
 pub mod quantum;
 
+// The last of the priorities.
+const LAST_PRIORITY: u32 = 62;
+
 // Whether task i runs while the scheduler is locked.
-fn runs_locked(s: &[u8], i: u32) -> bool
-    requires { Image s.now }
+fn runs_locked(s: &Image, i: usize) -> bool
+    requires { i < task_count }
     ensures { result ≡ is_locked (view s.now) && is_running i (view s.now) }
 {
     let d = numbers::get_depth(s);
     let v = numbers::get_running(s);
-    !(d == 0) & (v as u64 == i as u64 + 1)
+    (d != 0) & (v as usize == i + 1)
 }
 
 fn new_task(base: u8, quantum: u16) -> rules::Task
@@ -33,7 +41,7 @@ fn new_task(base: u8, quantum: u16) -> rules::Task
         suspend: 0,
         quantum: quantum,
         left: quantum,
-        state: 0,
+        state: tasks::PLAIN,
         object: 0,
         marked: 0,
         due: 0,
@@ -45,89 +53,75 @@ fn new_task(base: u8, quantum: u16) -> rules::Task
     }
 }
 
-pub fn create_task(s: &mut [u8], i: u32, base: u32, quantum: u32) -> u8
-    requires { Image s.old }
-    ensures { Served (create_answer i base quantum (view s.old)) (chosen (create i base quantum (view s.old))) result s.old s.new }
+pub fn create_task(s: &mut Image, i: u32, base: u32, quantum: u32) -> Answer
+    ensures { Served (create_answer i base quantum (view s.old)) (chosen (create i base quantum (view s.old))) (number_of result) s.old s.new }
 {
-    if 32 <= i {
-        return 1;
+    let i = i as usize;
+    if layout::TASKS <= i {
+        return Err(Refusal::BeyondRange);
     }
-    if tasks::get_used(s, i as usize) == 1 {
-        return 3;
+    if tasks::get_used(s, i) == 1 {
+        return Err(Refusal::InUse);
     }
-    if 62 < base {
-        return 4;
+    if LAST_PRIORITY < base {
+        return Err(Refusal::BadValue);
     }
-    if 65535 < quantum {
-        return 4;
+    if quantum::MOST < quantum {
+        return Err(Refusal::BadValue);
     }
     let own = quantum::quantum_of(s, quantum as u16);
-    moves::put_task(s, i as usize, new_task(base as u8, own));
+    moves::put_task(s, i, new_task(base as u8, own));
     moves::choose(s);
-    0
+    Ok(Done::Now)
 }
 
 // Whether task i holds a mutex.
-fn holds_any(s: &[u8], i: u32) -> bool
-    requires { Image s.now }
-    ensures { result ≡ holds_below 16 i (view s.now) }
+fn holds_any(s: &Image, i: usize) -> bool
+    requires { i < task_count }
+    ensures { result ≡ holds_below mutex_count i (view s.now) }
 {
-    let mut m: usize = 0;
-    while m < 16 {
+    for m in 0..layout::MUTEXES {
         let v = mutexes::get_holder(s, m);
-        if v as u64 == i as u64 + 1 {
+        if v as usize == i + 1 {
             return true;
         }
-        m += 1;
     }
     false
 }
 
-pub fn delete_task(s: &mut [u8], i: u32) -> u8
-    requires { Image s.old }
-    ensures { Served (delete_answer i (view s.old)) (chosen (delete i (view s.old))) result s.old s.new }
+pub fn delete_task(s: &mut Image, i: u32) -> Answer
+    ensures { Served (delete_answer i (view s.old)) (chosen (delete i (view s.old))) (number_of result) s.old s.new }
 {
-    if 32 <= i {
-        return 1;
-    }
-    if !(tasks::get_used(s, i as usize) == 1) {
-        return 2;
-    }
+    let i = checks::task_in_use(s, i)?;
     if runs_locked(s, i) {
-        return 7;
+        return Err(Refusal::WhileLocked);
     }
     if holds_any(s, i) {
-        return 13;
+        return Err(Refusal::StillNeeded);
     }
-    let holder = chain::next_of(s, i as usize);
-    moves::clear_task(s, i as usize);
+    let holder = chain::next_of(s, i);
+    moves::clear_task(s, i);
     walk::walk_from(s, holder);
     moves::choose(s);
-    0
+    Ok(Done::Now)
 }
 
-pub fn change_priority(s: &mut [u8], i: u32, base: u32) -> u8
-    requires { Image s.old }
-    ensures { Served (priority_answer i base (view s.old)) (chosen (change_priority i base (view s.old))) result s.old s.new }
+pub fn change_priority(s: &mut Image, i: u32, base: u32) -> Answer
+    ensures { Served (priority_answer i base (view s.old)) (chosen (change_priority i base (view s.old))) (number_of result) s.old s.new }
 {
-    if 32 <= i {
-        return 1;
+    let i = checks::task_in_use(s, i)?;
+    if LAST_PRIORITY < base {
+        return Err(Refusal::BadValue);
     }
-    if !(tasks::get_used(s, i as usize) == 1) {
-        return 2;
-    }
-    if 62 < base {
-        return 4;
-    }
-    tasks::set_base(s, i as usize, base as u8);
-    walk::walk_from(s, i as usize);
+    tasks::set_base(s, i, base as u8);
+    walk::walk_from(s, i);
     moves::choose(s);
-    0
+    Ok(Done::Now)
 }
 
 // The suspend count of task i becomes n; a plain task that is suspended leaves the able queue, and goes behind its equals when it is not.
-fn suspend_to(s: &mut [u8], i: usize, n: u8)
-    requires { (i < 32) × Image s.old }
+fn suspend_to(s: &mut Image, i: usize, n: u8)
+    requires { i < task_count }
     ensures { view s.new ≡ put i (with_suspend n (task_of (view s.old) i)) (view s.old) }
 {
     let q = moves::place_of(s, i);
@@ -135,43 +129,31 @@ fn suspend_to(s: &mut [u8], i: usize, n: u8)
     moves::settle(s, i, q);
 }
 
-pub fn suspend_task(s: &mut [u8], i: u32) -> u8
-    requires { Image s.old }
-    ensures { Served (suspend_answer i (view s.old)) (chosen (suspend i (view s.old))) result s.old s.new }
+pub fn suspend_task(s: &mut Image, i: u32) -> Answer
+    ensures { Served (suspend_answer i (view s.old)) (chosen (suspend i (view s.old))) (number_of result) s.old s.new }
 {
-    if 32 <= i {
-        return 1;
-    }
-    if !(tasks::get_used(s, i as usize) == 1) {
-        return 2;
-    }
+    let i = checks::task_in_use(s, i)?;
     if runs_locked(s, i) {
-        return 7;
+        return Err(Refusal::WhileLocked);
     }
-    let n = tasks::get_suspend(s, i as usize);
-    if 250 <= n {
-        return 10;
+    let n = tasks::get_suspend(s, i);
+    if checks::MOST_NESTED <= n {
+        return Err(Refusal::NestedTooDeep);
     }
-    suspend_to(s, i as usize, n + 1);
+    suspend_to(s, i, n + 1);
     moves::choose(s);
-    0
+    Ok(Done::Now)
 }
 
-pub fn resume_task(s: &mut [u8], i: u32) -> u8
-    requires { Image s.old }
-    ensures { Served (resume_answer i (view s.old)) (chosen (resume i (view s.old))) result s.old s.new }
+pub fn resume_task(s: &mut Image, i: u32) -> Answer
+    ensures { Served (resume_answer i (view s.old)) (chosen (resume i (view s.old))) (number_of result) s.old s.new }
 {
-    if 32 <= i {
-        return 1;
-    }
-    if !(tasks::get_used(s, i as usize) == 1) {
-        return 2;
-    }
-    let n = tasks::get_suspend(s, i as usize);
+    let i = checks::task_in_use(s, i)?;
+    let n = tasks::get_suspend(s, i);
     if n == 0 {
-        return 17;
+        return Err(Refusal::NotSuspended);
     }
-    suspend_to(s, i as usize, n - 1);
+    suspend_to(s, i, n - 1);
     moves::choose(s);
-    0
+    Ok(Done::Now)
 }

@@ -1,5 +1,6 @@
 -- The tick, case by case.
-use Rattle.std.proofs.Common.{◌≡◌, ℕ, zero, suc, ◌+◌, ◌-◌, ◌<◌, ◌≤◌, Bool, true, false, cond, not, ◌&&◌, ◌||◌, eqb, length, sym, refl, ap, ◌∙◌, true≢false, add-one, arith, get_or-set_same, eq-eqb, ne_eqb}
+use Rattle.std.proofs.Common.{◌≡◌, ℕ, zero, suc, ◌+◌, ◌-◌, ◌<◌, ◌≤◌, Bool, true, false, cond, ◌&&◌, ◌||◌, eqb, length, sym, refl, ap, ◌∙◌, add-one, arith, get_or-set_same, eq-eqb, ne_eqb}
+use Rattle.std.proofs.lemmas.Bool.{and_right, or_parts}
 use Rattle.rules.specs.declared.Task.{Task}
 use Rattle.rules.specs.Sizes.{task_count}
 use Rattle.rules.specs.Table.{Table, task_of, no_task, with_task, with_left}
@@ -8,18 +9,6 @@ use Rattle.rules.specs.Time.{caller_of}
 use Rattle.rules.specs.Tick.{turned, is_due, due_ended, due_below}
 use Rattle.laws.specs.queues.Put.{put_out, put-stays, rotate_out, place_same}
 use Rattle.tick.specs.Marks.{is_at, some_at}
-
--- ---- two tests at once, and a third
-
-pub both_not : (a b p : Bool) → not (a && b) ≡ true → false ≡ a && (b && p)
-both_not false b p e = refl
-both_not true false p e = refl
-both_not true true p e = absurd (true≢false (sym e))
-
-pub both_are : (a b p : Bool) → not (a && b) ≡ false → p ≡ a && (b && p)
-both_are false b p e = absurd (true≢false e)
-both_are true false p e = absurd (true≢false e)
-both_are true true p e = refl
 
 same_all : (t : Table) (a b : Bool) → t ≡ cond a t (cond b t t)
 same_all t true b = refl
@@ -100,18 +89,6 @@ pub some_next : (n now : ℕ) (t : Table) → is_at n now t || some_at n now t �
 unfolding some_at
 some_next n now t = rw add-one
 
-or_first : (a b : Bool) → a || b ≡ false → a ≡ false
-or_first false b e = refl
-or_first true b e = absurd (true≢false e)
-
-or_last : (a b : Bool) → a || b ≡ false → b ≡ false
-or_last false b e = e
-or_last true b e = absurd (true≢false e)
-
-and_none : (a b : Bool) → b ≡ false → a && b ≡ false
-and_none false b e = refl
-and_none true b e = e
-
 -- Where no mark is the tick, none is due.
 pub none_due : (n : ℕ) (t : Table) → some_at n t.tick t ≡ false → t ≡ due_below n t
 unfolding some_at due_below
@@ -119,4 +96,5 @@ none_due zero t e = refl
 none_due (suc n) t e =
     let here = is_at n t.tick t in
     let others = some_at n t.tick t in
-    due_not n t (and_none (eqb (task_of t n).marked 1) here (or_first here others e)) ∙ ap (due_ended n) (none_due n t (or_last here others e))
+    let none = or_parts here others e in
+    due_not n t (and_right (eqb (task_of t n).marked 1) here none.0) ∙ ap (due_ended n) (none_due n t none.1)

@@ -1,5 +1,5 @@
 -- A table breaks no rule of `Broken` exactly where it is sound, and `why_of` finds the first: what `Theorem` states.
-use Rattle.std.specs.Prelude.{◌≡◌, ◌≢◌, true, false, ℕ, ◌+◌, ◌*◌, ◌≤◌, ◌<◌, eqb, length, get_or}
+use Rattle.std.specs.Prelude.{Some, ◌≡◌, ◌≢◌, true, false, ℕ, ◌+◌, ◌*◌, ◌≤◌, ◌<◌, eqb, length, get_or}
 use Rattle.std.proofs.Common.{sym, ap, subst, ◌∙◌, inl, inr, true≢false, arith}
 use Rattle.std.proofs.lemmas.Bool.{false≢true}
 use Rattle.queue.specs.Order.{Le, count}
@@ -11,11 +11,11 @@ use Rattle.rules.specs.Decides.{equals, at_most, fails, if_so}
 use Rattle.rules.proofs.Tested.{no_task_lem, no_semaphore_lem, no_mutex_lem, no_group_lem, no_channel_lem}
 use Rattle.why.specs.declared.Reason.{Reason}
 use Rattle.why.specs.Broken.{Broken, queue_at, slot_at, channel_at, message_at, task_used, task_base, task_work, task_suspend, task_quantum, task_left, task_state, task_object, task_marked, task_due, task_outcome, task_mask, task_test, task_consume, task_message, task_free, task_plain_mark, task_delay_mark, task_left_most, task_asks, task_turn, semaphore_used, semaphore_counts, semaphore_free, mutex_used, mutex_holder, mutex_nesting, mutex_free, mutex_unheld, mutex_held, group_used, group_flags, group_free, channel_used, channel_capacity, channel_held, channel_free, channel_room, message_range, message_unused, wait_used, wait_nothing, wait_apart, holder_used, queue_places, queue_nothing_else, queue_ordered, task_worked, task_not_due, tick_range, depth_range, running_range, running_first, running_able, default_least, default_most, ready_word, ready_levels}
-use Rattle.why.specs.Tests.{why_of, reason, rule_end, kept_in, is_kept}
+use Rattle.why.specs.Tests.{why_of, reason, rule_end, kept_in, is_kept, first_at, found_at}
 use Rattle.why.specs.Slots.{all_slots, slot_of, ordered-slots, slots-ordered, stand_decides, each_slot}
 use Rattle.why.specs.Ready.{level_decides}
 use Rattle.why.specs.Decided.{unrefuted, used_decides, nothing_decides, apart_decides, holder_decides, work_decides, placed_decides, run_decides, broken-fails, fails-broken}
-use Rattle.why.specs.Least.{FirstBroken, FoundFrom, found}
+use Rattle.why.specs.Least.{FirstBroken, FoundFrom, found, found_some, first_is}
 use Rattle.why.specs.Theorem.{Explains, SoundExactly, WhyExactly}
 
 -- ---- a sound table breaks none
@@ -262,3 +262,15 @@ why-exactly t w = go (found t)
     go : FoundFrom rule_end 0 t (why_of t) → Explains t (why_of t)
     go (inl (e, k)) = none_broken w e (λ c i b. let f = broken-fails w b in not_broken w (k c (omega arith) (omega (arith, f.0)) i f.1) b)
     go (inr f) = first_broken w f
+
+-- Nothing is found exactly where the table is sound.
+module _ {t : Table} (w : Shaped t) where
+  pub none_sound : why_of t ≡ reason 0 0 → Sound t
+  none_sound e = (why-exactly t w).sound.0 (ap (λ (r : Reason). r.rule) e)
+
+  pub some_unsound : {c i : ℕ} → why_of t ≡ reason c i → found_at c t ≡ Some i → Sound t → ⊥
+  some_unsound {c} {i} e f s =
+      let (h, k) = found_some c t f in
+      let zero : c ≡ 0 = sym (ap (λ (r : Reason). r.rule) e) ∙ (why-exactly t w).sound.1 s in
+      let fails : is_kept c (first_at c t) t ≡ false = (first_is c t).fails (omega arith) in
+      rule_none t (first_at c t) (subst (λ (x : ℕ). is_kept x (first_at c t) t ≡ false) zero fails)

@@ -1,5 +1,5 @@
 -- The least number that fails, and the first rule that is broken, found one after another.
-use Rattle.std.specs.Prelude.{◌≡◌, ◌⊎◌, Bool, true, false, cond, ◌&&◌, ltb, leb}
+use Rattle.std.specs.Prelude.{Some, None, ◌≡◌, ◌⊎◌, Bool, true, false, cond, ◌&&◌, ltb, leb}
 use Rattle.std.proofs.Math.Path.{refl, subst}
 use Rattle.std.proofs.Common.{sym, ltb-true, ltb-false, lt-ltb, le-ltb}
 use Rattle.std.proofs.Math.Logic.{inl, inr}
@@ -10,7 +10,7 @@ use Rattle.rules.specs.Sizes.{task_count, level_count}
 use Rattle.rules.specs.Table.{Table}
 use Rattle.why.specs.declared.Reason.{Reason}
 use Rattle.why.specs.Broken.{record_count, message_count}
-use Rattle.why.specs.Tests.{least, first_at, is_kept, record_end, reason, why_from, why_of, rule_end}
+use Rattle.why.specs.Tests.{least, first_at, found_at, is_kept, record_end, reason, why_from, why_of, rule_end}
 
 -- ---- a turn of a loop
 
@@ -38,6 +38,28 @@ module _ (c : ℕ) (t : Table) where
   pub first_start : {n : ℕ} → n ≡ record_end c → first_at c t ≡ least (n - 0) 0 (λ i. is_kept c i t)
   unfolding first_at
   first_start {n} e = let z : n - 0 ≡ record_end c = omega (arith, e) in rw z
+
+-- What is found, in the code's words.
+module _ (c : ℕ) (t : Table) where
+  pub some_found : {i : ℕ} → i < record_end c → first_at c t ≡ i → Some i ≡ found_at c t
+  some_found {i} h e = rw (e, lt-ltb i (record_end c) h)
+
+  pub none_found : {i : ℕ} → record_end c ≤ i → first_at c t ≡ i → None ≡ found_at c t
+  none_found {i} h e = rw (e, le-ltb i (record_end c) h)
+
+  pub found_some : {i : ℕ} → found_at c t ≡ Some i → (i < record_end c) × (first_at c t ≡ i)
+  found_some {i} = go (ltb (first_at c t) (record_end c)) refl
+    where
+      go : (b : Bool) → ltb (first_at c t) (record_end c) ≡ b → cond b (Some (first_at c t)) None ≡ Some i → (i < record_end c) × (first_at c t ≡ i)
+      go true h e = let k : first_at c t ≡ i = cc in (omega (arith, k, ltb-true (first_at c t) (record_end c) h), k)
+      go false h e = absurd (cc)
+
+  pub found_none : found_at c t ≡ None → record_end c ≤ first_at c t
+  found_none = go (ltb (first_at c t) (record_end c)) refl
+    where
+      go : (b : Bool) → ltb (first_at c t) (record_end c) ≡ b → cond b (Some (first_at c t)) None ≡ None → record_end c ≤ first_at c t
+      go true h e = absurd (cc)
+      go false h e = ltb-false (first_at c t) (record_end c) h
 
 pub end_most : (c : ℕ) → record_end c ≤ record_count
 unfolding record_end
@@ -113,7 +135,7 @@ pub record FirstBroken (c n d i : ℕ) (t : Table) : Type 0 where
 abbrev pub FoundFrom : (n c : ℕ) → Table → Reason → Type 0
 FoundFrom n c t r = ((r ≡ reason 0 0) × ((e : ℕ) → c ≤ e → e < c + n → AllKeep e t)) ⊎ FirstBroken c n r.rule r.number t
 
-first_is : (c : ℕ) (t : Table) → Least (record_end c) 0 (λ i. is_kept c i t) (first_at c t)
+pub first_is : (c : ℕ) (t : Table) → Least (record_end c) 0 (λ i. is_kept c i t) (first_at c t)
 unfolding first_at
 first_is c t = least_is (record_end c) 0 (λ i. is_kept c i t)
 

@@ -1,5 +1,6 @@
 -- The slots of a queue, one after another.
-use Rattle.std.specs.Prelude.{◌≡◌, Bool, true, false, List, [], ◌∷◌, ℕ, zero, suc, ◌+◌, ◌*◌, ◌/◌, ◌%◌, ◌≤◌, ◌<◌, leb, length, get_or, drop}
+use Rattle.std.specs.Prelude.{◌≡◌, refl, Bool, true, false, List, [], ◌∷◌, ℕ, zero, suc, ◌+◌, ◌*◌, ◌/◌, ◌%◌, ◌≤◌, ◌<◌, leb, length, get_or, drop}
+use Rattle.std.specs.Int.{from_bool}
 use Rattle.std.proofs.Common.{subst, add-one, arith, drop_of_length-le, drop-cons}
 use borrow.Author.Tests.{eq-eqb, ne_eqb}
 use Rattle.queue.specs.Slots.{key_of}
@@ -23,6 +24,11 @@ count_end u l j h = rw (drop_of_length-le l h)
 pub once_most : (b : Bool) → once b ≤ 1
 once_most true = omega arith
 once_most false = omega arith
+
+-- A test as a number, in the code's words.
+pub once_is : (b : Bool) → from_bool b ≡ once b
+once_is true = refl
+once_is false = refl
 
 -- ---- all slots, and each by its number
 

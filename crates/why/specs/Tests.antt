@@ -1,5 +1,5 @@
 -- The rules of `Broken` as tests that compute, and the first that fails.
-use Rattle.std.specs.Prelude.{Bool, true, false, cond, not, ◌&&◌, ◌||◌, List, [], ◌∷◌, ◌++◌, ℕ, zero, suc, ◌+◌, ◌-◌, eqb, ltb, leb}
+use Rattle.std.specs.Prelude.{Option, Some, None, Bool, true, false, cond, not, ◌&&◌, ◌||◌, List, [], ◌∷◌, ◌++◌, ℕ, zero, suc, ◌+◌, ◌-◌, eqb, ltb, leb}
 use Rattle.std.specs.Bool.{beq}
 use Rattle.queue.specs.Slots.{key_of}
 use Rattle.queue.specs.Order.{count}
@@ -217,6 +217,10 @@ first_at c t = least (record_end c) 0 (λ i. is_kept c i t)
 
 abbrev pub reason : (rule number : ℕ) → Reason
 reason rule number = record { rule = rule; number = number }
+
+-- The same as the code gives it: none where none does.
+abbrev pub found_at : ℕ → Table → Option ℕ
+found_at c t = cond (ltb (first_at c t) (record_end c)) (Some (first_at c t)) None
 
 -- The first of the n rules from c on that is broken; 0 and 0 where none is.
 unfoldable pub why_from : (n c : ℕ) → Table → Reason

@@ -1,7 +1,9 @@
 -- A free number's fields, a part at a time, as the code looks at them.
-use Rattle.std.specs.Prelude.{◌≡◌, refl, Bool, true, false, not, ◌&&◌, ◌||◌, eqb}
-use Rattle.std.proofs.Common.{ap, ◌∙◌}
-use Rattle.rules.specs.Sound.{implies, is_no_task}
+use Rattle.std.specs.Prelude.{◌≡◌, refl, Bool, true, false, not, ◌&&◌, ◌||◌, ℕ, ◌<◌, eqb, ltb}
+use Rattle.std.proofs.Common.{ap, ◌∙◌, arith}
+use Rattle.std.proofs.lemmas.Bool.Decides.{nat_tests}
+use Rattle.rules.specs.Sizes.{ticks_round, flag_sets, waits_flags}
+use Rattle.rules.specs.Sound.{implies, marks_in, asks_in, is_no_task}
 use Rattle.rules.specs.declared.Task.{Task}
 
 -- ---- tests of two parts
@@ -19,6 +21,15 @@ or_is false b = refl
 pub free_is : (a b : Bool) → not a || b ≡ implies a (a && b)
 free_is true b = refl
 free_is false b = refl
+
+-- A mark has a due tick, and who waits for flags a mask.
+pub due_is : (m d : ℕ) → d < ticks_round → not (eqb m 0) || eqb d 0 ≡ ltb d (marks_in m)
+unfolding marks_in
+due_is m d h = grind (arith, nat_tests)
+
+pub mask_is : (s m : ℕ) → m < flag_sets → eqb s waits_flags || eqb m 0 ≡ ltb m (asks_in s flag_sets)
+unfolding asks_in
+mask_is s m h = grind (arith, nat_tests)
 
 -- ---- a task's
 

@@ -3,17 +3,18 @@ ghost use Rattle.std.specs.Prelude.{◌≡◌, ◌<◌, eqb, leb, get_or};
 ghost use Rattle.rules.specs.Sizes.{channel_count, most_messages};
 ghost use Rattle.rules.specs.Table.{channel_of, row_of};
 ghost use Rattle.rules.specs.Sound.{implies, is_no_channel};
-ghost use Rattle.table.specs.Image.{Image, view};
+ghost use Rattle.table.specs.Image.{view};
 ghost use Rattle.why.specs.Tests.{kept_in, channel_tests, message_tests};
 
+use table::layout::Image;
 use table::{channels, layout};
 
 // The slots of all rows, which are the records of the rules on messages.
 pub const MESSAGES: usize = layout::CHANNELS * layout::MOST_MESSAGES;
 
 // A free channel has zero fields.
-fn is_free_right(s: &[u8], i: usize) -> bool
-    requires { (i < channel_count) × Image s.now }
+fn is_free_right(s: &Image, i: usize) -> bool
+    requires { i < channel_count }
     ensures { result ≡ implies (eqb (channel_of (view s.now) i).used 0) (is_no_channel (channel_of (view s.now) i)) }
 {
     let used = channels::get_used(s, i);
@@ -22,8 +23,8 @@ fn is_free_right(s: &[u8], i: usize) -> bool
     (used != 0) | ((capacity == 0) & (held == 0))
 }
 
-pub fn is_right(s: &[u8], rule: u32, i: usize) -> bool
-    requires { Image s.now }
+#[tactic(auto, unfolding(crate::specs::Tests::kept_in))]
+pub fn is_right(s: &Image, rule: u32, i: usize) -> bool
     ensures { result ≡ kept_in channel_tests rule i (view s.now) }
 {
     if 16 <= i {
@@ -40,8 +41,8 @@ pub fn is_right(s: &[u8], rule: u32, i: usize) -> bool
 }
 
 // Slot j of channel c holds a message, or it is 0.
-fn is_unused_right(s: &[u8], c: usize, j: usize) -> bool
-    requires { (c < channel_count) × (j < most_messages) × Image s.now }
+fn is_unused_right(s: &Image, c: usize, j: usize) -> bool
+    requires { (c < channel_count) × (j < most_messages) }
     ensures { result ≡ implies (leb (channel_of (view s.now) c).held j) (eqb (get_or (row_of (view s.now) c) j 0) 0) }
 {
     if j < channels::get_held(s, c) as usize {
@@ -51,8 +52,8 @@ fn is_unused_right(s: &[u8], c: usize, j: usize) -> bool
 }
 
 // Slot j of channel c is number 32 c + j.
-pub fn is_message_right(s: &[u8], rule: u32, n: usize) -> bool
-    requires { Image s.now }
+#[tactic(auto, unfolding(crate::specs::Tests::kept_in))]
+pub fn is_message_right(s: &Image, rule: u32, n: usize) -> bool
     ensures { result ≡ kept_in message_tests rule n (view s.now) }
 {
     if MESSAGES <= n {

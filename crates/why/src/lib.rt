@@ -1,9 +1,13 @@
 // The first standing rule that an image breaks, and the record where: each rule is tested by itself, in the order of the numbers.
 #![tactic(auto)]
 
-ghost use Rattle.std.specs.Prelude.{◌≡◌};
-ghost use Rattle.table.specs.Image.{Image, view};
-ghost use Rattle.why.specs.Tests.{is_kept, record_end, first_at, why_of};
+ghost use Rattle.std.specs.Prelude.{◌≡◌, ◌↔◌};
+ghost use Rattle.std.specs.Option.{unwrap_or};
+ghost use Rattle.rules.specs.Sound.{Sound};
+ghost use Rattle.table.specs.Image.{view};
+ghost use Rattle.why.specs.Tests.{is_kept, record_end, found_at, reason, why_of};
+
+use table::layout::Image;
 
 mod channels;
 mod levels;
@@ -14,7 +18,7 @@ mod tasks;
 mod waits;
 mod works;
 
-// A rule of the list and the number of a record that breaks it; 0 and 0 for none.
+// A rule of the list and the number of a record that breaks it.
 #[derive(Clone, Copy)]
 pub struct Reason {
     pub rule: u32,
@@ -24,93 +28,63 @@ pub struct Reason {
 // The numbers of the rules are below it.
 const RULE_END: u32 = 0xC0;
 
-// Whether the record i keeps the rule.
-fn is_kept(s: &[u8], rule: u32, i: usize) -> bool
-    requires { Image s.now }
+// Whether the record i keeps the rule. The rules go by number, since C is told these numbers: docs/IMAGE.md has the list.
+fn is_kept(s: &Image, rule: u32, i: usize) -> bool
     ensures { result ≡ is_kept rule i (view s.now) }
 {
-    if rule < 0x10 {
-        return tasks::is_in_range(s, rule, i);
+    match rule {
+        0x00..=0x0F => tasks::is_in_range(s, rule, i),
+        0x10..=0x1F => tasks::is_right(s, rule, i),
+        0x20..=0x3F => objects::is_right(s, rule, i),
+        0x40..=0x4F => objects::is_group_right(s, rule, i),
+        0x50..=0x54 => channels::is_right(s, rule, i),
+        0x55..=0x7F => channels::is_message_right(s, rule, i),
+        0x80..=0x82 => waits::is_right(s, rule, i),
+        0x83..=0x8F => waits::is_holder_right(s, rule, i),
+        0x90..=0x9F => queues::is_right(s, rule, i),
+        0xA0..=0xAF => works::is_right(s, rule, i),
+        0xB0..=0xB7 => singles::is_right(s, rule, i),
+        _ => levels::is_right(s, rule, i),
     }
-    if rule < 0x20 {
-        return tasks::is_right(s, rule, i);
-    }
-    if rule < 0x40 {
-        return objects::is_right(s, rule, i);
-    }
-    if rule < 0x50 {
-        return objects::is_group_right(s, rule, i);
-    }
-    if rule < 0x55 {
-        return channels::is_right(s, rule, i);
-    }
-    if rule < 0x80 {
-        return channels::is_message_right(s, rule, i);
-    }
-    if rule < 0x83 {
-        return waits::is_right(s, rule, i);
-    }
-    if rule < 0x90 {
-        return waits::is_holder_right(s, rule, i);
-    }
-    if rule < 0xA0 {
-        return queues::is_right(s, rule, i);
-    }
-    if rule < 0xB0 {
-        return works::is_right(s, rule, i);
-    }
-    if rule < 0xB8 {
-        return singles::is_right(s, rule, i);
-    }
-    levels::is_right(s, rule, i)
 }
 
 // The records of the rule have numbers below it.
+#[tactic(auto, unfolding(crate::specs::Tests::record_end))]
 fn record_end(rule: u32) -> usize
     ensures { result ≡ record_end rule }
 {
-    if (0x90 <= rule) & (rule < 0xA0) {
-        return queues::RECORDS;
+    match rule {
+        0x55..=0x5F => channels::MESSAGES,
+        0x90..=0x9F => queues::RECORDS,
+        0xB8.. => levels::RECORDS,
+        _ => 32,
     }
-    if (0x55 <= rule) & (rule < 0x60) {
-        return channels::MESSAGES;
-    }
-    if 0xB8 <= rule {
-        return levels::RECORDS;
-    }
-    32
 }
 
-// The first record that breaks the rule, or the end of its records.
-fn first_at(s: &[u8], rule: u32) -> usize
-    requires { Image s.now }
-    ensures { result ≡ first_at rule (view s.now) }
+// The first record that breaks the rule.
+fn first_at(s: &Image, rule: u32) -> Option<usize>
+    ensures { result ≡ found_at rule (view s.now) }
 {
-    let end = record_end(rule);
-    let mut i = 0;
-    while i < end {
+    for i in 0..record_end(rule) {
         if !is_kept(s, rule, i) {
-            return i;
+            return Some(i);
         }
-        i += 1;
     }
-    i
+    None
 }
 
-pub fn why(s: &[u8]) -> Reason
-    requires { Image s.now }
-    ensures { result ≡ why_of (view s.now) }
+// The first rule that a table breaks, and the first record that breaks it. A sound table breaks none.
+pub fn why(s: &Image) -> Option<Reason>
+    ensures reason { unwrap_or result (reason 0 0) ≡ why_of (view s.now) }
+    ensures none { (result ≡ None) ↔ Sound (view s.now) }
 {
-    let mut rule: u32 = 0;
-    while rule < RULE_END {
-        let i = first_at(s, rule);
-        if i < record_end(rule) {
-            return Reason {
+    for rule in 0..RULE_END {
+        if let Some(i) = first_at(s, rule) {
+            return Some(Reason {
                 rule: rule,
                 number: i as u32,
-            };
+            });
         }
-        rule += 1;
     }
-    Reason { rule: 0, number: 0 }
+    None
 }

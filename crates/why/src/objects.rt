@@ -3,14 +3,15 @@ ghost use Rattle.std.specs.Prelude.{◌≡◌, ◌<◌, eqb};
 ghost use Rattle.rules.specs.Sizes.{mutex_count};
 ghost use Rattle.rules.specs.Table.{mutex_of};
 ghost use Rattle.rules.specs.Sound.{implies, is_no_mutex};
-ghost use Rattle.table.specs.Image.{Image, view};
+ghost use Rattle.table.specs.Image.{view};
 ghost use Rattle.why.specs.Tests.{kept_in, object_tests, group_tests};
 
+use table::layout::Image;
 use table::{groups, mutexes, semaphores};
 
 // A free mutex has zero fields.
-fn is_free_mutex_right(s: &[u8], i: usize) -> bool
-    requires { (i < mutex_count) × Image s.now }
+fn is_free_mutex_right(s: &Image, i: usize) -> bool
+    requires { i < mutex_count }
     ensures { result ≡ implies (eqb (mutex_of (view s.now) i).used 0) (is_no_mutex (mutex_of (view s.now) i)) }
 {
     let used = mutexes::get_used(s, i);
@@ -19,8 +20,8 @@ fn is_free_mutex_right(s: &[u8], i: usize) -> bool
     (used != 0) | ((holder == 0) & (nesting == 0))
 }
 
-pub fn is_right(s: &[u8], rule: u32, i: usize) -> bool
-    requires { Image s.now }
+#[tactic(auto, unfolding(crate::specs::Tests::kept_in))]
+pub fn is_right(s: &Image, rule: u32, i: usize) -> bool
     ensures { result ≡ kept_in object_tests rule i (view s.now) }
 {
     if 16 <= i {
@@ -40,8 +41,8 @@ pub fn is_right(s: &[u8], rule: u32, i: usize) -> bool
     }
 }
 
-pub fn is_group_right(s: &[u8], rule: u32, i: usize) -> bool
-    requires { Image s.now }
+#[tactic(auto, unfolding(crate::specs::Tests::kept_in))]
+pub fn is_group_right(s: &Image, rule: u32, i: usize) -> bool
     ensures { result ≡ kept_in group_tests rule i (view s.now) }
 {
     if 8 <= i {

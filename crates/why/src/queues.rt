@@ -4,51 +4,40 @@ ghost use Rattle.queue.specs.Slots.{key_of};
 ghost use Rattle.queue.specs.Order.{count};
 ghost use Rattle.rules.specs.Sizes.{task_count};
 ghost use Rattle.rules.specs.Table.{queue_of, queue_count, slot_in, works};
-ghost use Rattle.rules.specs.Sound.{once};
-ghost use Rattle.table.specs.Image.{Image, view};
+ghost use Rattle.table.specs.Image.{view};
 ghost use Rattle.why.specs.Tests.{kept_in, queue_tests, is_placed, may_stand};
 
+use table::layout::Image;
 use table::{layout, moves};
 
 // The slots of all queues, which are the records of these rules.
 pub const RECORDS: usize = layout::QUEUES * layout::SLOTS;
 
-fn once(b: bool) -> u8
-    ensures { result ≡ once b }
-{
-    if b {
-        return 1;
-    }
-    0
-}
-
 // How often v stands in queue q.
-fn count_in(s: &[u8], q: usize, v: u8) -> u8
-    requires { (q < queue_count) × Image s.now }
+fn count_in(s: &Image, q: usize, v: u8) -> u8
+    requires { q < queue_count }
     ensures { result ≡ count v (queue_of (view s.now) q) }
 {
     let mut n: u8 = 0;
-    let mut j = 0;
-    while j < layout::SLOTS {
-        n += once(moves::slot_in(s, q, j) == v);
-        j += 1;
+    for j in 0..layout::SLOTS {
+        n += u8::from(moves::slot_in(s, q, j) == v);
     }
     n
 }
 
 // Task i stands in queue q once where that is its queue, and else not at all.
-fn is_placed(s: &[u8], q: usize, i: usize) -> bool
-    requires { (q < queue_count) × (i < task_count) × Image s.now }
+fn is_placed(s: &Image, q: usize, i: usize) -> bool
+    requires { (q < queue_count) × (i < task_count) }
     ensures { result ≡ is_placed (view s.now) q i }
 {
     let n = count_in(s, q, i as u8 + 1);
     let place = moves::place_of(s, i);
-    n == once(place == q)
+    n == u8::from(place == q)
 }
 
 // The working priority of the task that a slot holds, 0 where it is no task's number.
-fn key_of(s: &[u8], v: u8) -> u8
-    requires { (1 ≤ v) × Image s.now }
+fn key_of(s: &Image, v: u8) -> u8
+    requires { 1 ≤ v }
     ensures { result ≡ key_of (works (view s.now)) v }
 {
     if 32 < v {
@@ -58,8 +47,8 @@ fn key_of(s: &[u8], v: u8) -> u8
 }
 
 // Slot x may stand before slot y.
-fn may_stand(s: &[u8], x: u8, y: u8) -> bool
-    requires { Image s.now }
+#[tactic(auto, unfolding(crate::specs::Tests::may_stand))]
+fn may_stand(s: &Image, x: u8, y: u8) -> bool
     ensures { result ≡ may_stand (works (view s.now)) x y }
 {
     if y == 0 {
@@ -72,8 +61,8 @@ fn may_stand(s: &[u8], x: u8, y: u8) -> bool
 }
 
 // Slot j may stand before the next. Behind the last there is none.
-fn is_ordered(s: &[u8], q: usize, j: usize) -> bool
-    requires { (q < queue_count) × (j < task_count) × Image s.now }
+fn is_ordered(s: &Image, q: usize, j: usize) -> bool
+    requires { (q < queue_count) × (j < task_count) }
     ensures { result ≡ may_stand (works (view s.now)) (slot_in q j (view s.now)) (slot_in q (j + 1) (view s.now)) }
 {
     if 31 <= j {
@@ -84,8 +73,8 @@ fn is_ordered(s: &[u8], q: usize, j: usize) -> bool
     may_stand(s, x, y)
 }
 
-pub fn is_right(s: &[u8], rule: u32, n: usize) -> bool
-    requires { Image s.now }
+#[tactic(auto, unfolding(crate::specs::Tests::kept_in))]
+pub fn is_right(s: &Image, rule: u32, n: usize) -> bool
     ensures { result ≡ kept_in queue_tests rule n (view s.now) }
 {
     if RECORDS <= n {

@@ -1,26 +1,13 @@
-// The rules on the single numbers, and who runs.
+// The rules on the single numbers, and who runs: v is a task's number plus 1, or 0 for none.
 ghost use Rattle.std.specs.Prelude.{◌≡◌};
-ghost use Rattle.table.specs.Image.{Image, view};
-ghost use Rattle.why.specs.Tests.{kept_in, single_tests, may_run};
+ghost use Rattle.table.specs.Image.{view};
+ghost use Rattle.why.specs.Tests.{kept_in, single_tests};
 
+use table::layout::Image;
 use table::{layout, moves, numbers};
 
-// Whether v, a task's number plus 1 or 0 for none, may run while the scheduler is locked.
-fn may_run(s: &[u8], v: u8) -> bool
-    requires { Image s.now }
-    ensures { result ≡ may_run (view s.now) v }
-{
-    if v == 0 {
-        return true;
-    }
-    if 32 < v {
-        return false;
-    }
-    moves::is_able(s, v as usize - 1)
-}
-
-pub fn is_right(s: &[u8], rule: u32, i: usize) -> bool
-    requires { Image s.now }
+#[tactic(auto, unfolding(crate::specs::Tests::kept_in))]
+pub fn is_right(s: &Image, rule: u32, i: usize) -> bool
     ensures { result ≡ kept_in single_tests rule i (view s.now) }
 {
     if 1 <= i {
@@ -33,7 +20,7 @@ pub fn is_right(s: &[u8], rule: u32, i: usize) -> bool
         0xB1 => depth <= 250,
         0xB2 => v <= 32,
         0xB3 => (depth != 0) | (v == moves::first_in(s, layout::ABLE_QUEUE)),
-        0xB4 => (depth == 0) | may_run(s, v),
+        0xB4 => (depth == 0) | sound::may_run(s, v),
         0xB5 => 1 <= numbers::get_default(s),
         0xB6 => (numbers::get_default(s) as u32) <= 65535,
         0xB7 => numbers::get_ready(s) <= 18446744073709551615,

@@ -2,55 +2,17 @@
 ghost use Rattle.std.specs.Prelude.{◌≡◌, ◌<◌, eqb};
 ghost use Rattle.rules.specs.Sizes.{task_count};
 ghost use Rattle.rules.specs.Table.{task_of};
-ghost use Rattle.rules.specs.Family.{objects_in};
-ghost use Rattle.rules.specs.Sound.{implies, marks_in, asks_in, is_no_task};
-ghost use Rattle.table.specs.Image.{Image, view};
+ghost use Rattle.rules.specs.Sound.{implies, is_no_task};
+ghost use Rattle.table.specs.Image.{view};
 ghost use Rattle.why.specs.Tests.{kept_in, range_tests, task_tests};
 ghost use Rattle.why.specs.Zeros.{is_plain_zero, is_wait_zero};
 
+use sound::tasks::{asks_in, objects_in};
+use table::layout::Image;
 use table::tasks;
 
-// How many numbers the object of a task in this state may have.
-fn objects_in(state: u8) -> u8
-    ensures { result ≡ objects_in state }
-{
-    if state == 2 {
-        return 16;
-    }
-    if state == 3 {
-        return 16;
-    }
-    if state == 4 {
-        return 8;
-    }
-    if state == 5 {
-        return 16;
-    }
-    1
-}
-
-// How many numbers a due mark may have.
-fn marks_in(marked: u8) -> u64
-    ensures { result ≡ marks_in marked }
-{
-    if marked == 0 {
-        return 1;
-    }
-    4294967296
-}
-
-// How many numbers what is asked of flags may have: n, and none but 0 where the task waits for no flags.
-fn asks_in(state: u8, n: u64) -> u64
-    ensures { result ≡ asks_in state n }
-{
-    if state == 4 {
-        return n;
-    }
-    1
-}
-
-pub fn is_in_range(s: &[u8], rule: u32, i: usize) -> bool
-    requires { Image s.now }
+#[tactic(auto, unfolding(crate::specs::Tests::kept_in))]
+pub fn is_in_range(s: &Image, rule: u32, i: usize) -> bool
     ensures { result ≡ kept_in range_tests rule i (view s.now) }
 {
     if 32 <= i {
@@ -66,19 +28,20 @@ pub fn is_in_range(s: &[u8], rule: u32, i: usize) -> bool
         0x07 => tasks::get_state(s, i) <= 5,
         0x08 => tasks::get_object(s, i) < objects_in(tasks::get_state(s, i)),
         0x09 => tasks::get_marked(s, i) <= 1,
-        0x0A => (tasks::get_due(s, i) as u64) < marks_in(tasks::get_marked(s, i)),
+        0x0A => (tasks::get_marked(s, i) != 0) | (tasks::get_due(s, i) == 0),
         0x0B => tasks::get_outcome(s, i) <= 3,
-        0x0C => (tasks::get_mask(s, i) as u64) < asks_in(tasks::get_state(s, i), 4294967296),
-        0x0D => (tasks::get_test(s, i) as u64) < asks_in(tasks::get_state(s, i), 4),
-        0x0E => (tasks::get_consume(s, i) as u64) < asks_in(tasks::get_state(s, i), 2),
+        0x0C => (tasks::get_state(s, i) == tasks::WAITS_FLAGS) | (tasks::get_mask(s, i) == 0),
+        0x0D => tasks::get_test(s, i) < asks_in(tasks::get_state(s, i), 4),
+        0x0E => tasks::get_consume(s, i) < asks_in(tasks::get_state(s, i), 2),
         0x0F => tasks::get_message(s, i) <= 4294967295,
         _ => true,
     }
 }
 
 // Whether the fields of a wait are 0, and the message that one gave.
-fn is_wait_zero(s: &[u8], i: usize) -> bool
-    requires { (i < task_count) × Image s.now }
+#[tactic(auto, unfolding(crate::specs::Zeros::is_wait_zero))]
+fn is_wait_zero(s: &Image, i: usize) -> bool
+    requires { i < task_count }
     ensures { result ≡ is_wait_zero (task_of (view s.now) i) }
 {
     let object = tasks::get_object(s, i);
@@ -94,8 +57,9 @@ fn is_wait_zero(s: &[u8], i: usize) -> bool
 }
 
 // Whether its other fields are 0.
-fn is_plain_zero(s: &[u8], i: usize) -> bool
-    requires { (i < task_count) × Image s.now }
+#[tactic(auto, unfolding(crate::specs::Zeros::is_plain_zero))]
+fn is_plain_zero(s: &Image, i: usize) -> bool
+    requires { i < task_count }
     ensures { result ≡ is_plain_zero (task_of (view s.now) i) }
 {
     let base = tasks::get_base(s, i);
@@ -109,15 +73,15 @@ fn is_plain_zero(s: &[u8], i: usize) -> bool
 }
 
 // A free number has zero fields.
-fn is_free_right(s: &[u8], i: usize) -> bool
-    requires { (i < task_count) × Image s.now }
+fn is_free_right(s: &Image, i: usize) -> bool
+    requires { i < task_count }
     ensures { result ≡ implies (eqb (task_of (view s.now) i).used 0) (is_no_task (task_of (view s.now) i)) }
 {
     (tasks::get_used(s, i) != 0) | (is_plain_zero(s, i) & is_wait_zero(s, i))
 }
 
-pub fn is_right(s: &[u8], rule: u32, i: usize) -> bool
-    requires { Image s.now }
+#[tactic(auto, unfolding(crate::specs::Tests::kept_in))]
+pub fn is_right(s: &Image, rule: u32, i: usize) -> bool
     ensures { result ≡ kept_in task_tests rule i (view s.now) }
 {
     if 32 <= i {

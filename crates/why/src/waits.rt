@@ -2,97 +2,71 @@
 ghost use Rattle.std.specs.Prelude.{◌≡◌, not, ◌<◌, eqb, ltb};
 ghost use Rattle.rules.specs.Sizes.{task_count, mutex_count};
 ghost use Rattle.rules.specs.Table.{semaphore_of, mutex_of, channel_of};
-ghost use Rattle.table.specs.Image.{Image, view};
+ghost use Rattle.table.specs.Image.{view};
 ghost use Rattle.why.specs.Tests.{kept_in, wait_tests, holder_tests, is_object_used, offers_nothing, is_apart, is_holder_used};
 
-use table::{channels, groups, mutexes, semaphores, tasks};
+use table::families::{Channels, Groups, Mutexes, Semaphores, used_at};
+use table::layout::Image;
+use table::{channels, layout, mutexes, semaphores, tasks};
 
 // The object that task i waits for is in use.
-fn is_used(s: &[u8], i: usize) -> bool
-    requires { (i < task_count) × Image s.now }
+fn is_used(s: &Image, i: usize) -> bool
+    requires { i < task_count }
     ensures { result ≡ is_object_used (view s.now) i }
 {
-    let state = tasks::get_state(s, i);
     let object = tasks::get_object(s, i) as usize;
-    if state == 2 {
-        return semaphores::used_at(s, object) == 1;
+    match tasks::get_state(s, i) {
+        tasks::WAITS_SEMAPHORE => used_at::<Semaphores>(s, object) == 1,
+        tasks::WAITS_MUTEX => used_at::<Mutexes>(s, object) == 1,
+        tasks::WAITS_FLAGS => used_at::<Groups>(s, object) == 1,
+        tasks::WAITS_MESSAGE => used_at::<Channels>(s, object) == 1,
+        _ => true,
     }
-    if state == 3 {
-        return mutexes::used_at(s, object) == 1;
-    }
-    if state == 4 {
-        return groups::used_at(s, object) == 1;
-    }
-    if state == 5 {
-        return channels::used_at(s, object) == 1;
-    }
-    true
 }
 
-fn is_empty(s: &[u8], o: usize) -> bool
-    requires { Image s.now }
+fn is_empty(s: &Image, o: usize) -> bool
     ensures { result ≡ not (ltb 0 (semaphore_of (view s.now) o).count) }
 {
-    if 16 <= o {
-        return true;
-    }
-    !(0 < semaphores::get_count(s, o))
+    layout::SEMAPHORES <= o || semaphores::get_count(s, o) == 0
 }
 
-fn is_held(s: &[u8], o: usize) -> bool
-    requires { Image s.now }
+fn is_held(s: &Image, o: usize) -> bool
     ensures { result ≡ not (eqb (mutex_of (view s.now) o).holder 0) }
 {
-    if 16 <= o {
-        return false;
-    }
-    mutexes::get_holder(s, o) != 0
+    o < layout::MUTEXES && mutexes::get_holder(s, o) != 0
 }
 
-fn has_no_message(s: &[u8], o: usize) -> bool
-    requires { Image s.now }
+fn has_no_message(s: &Image, o: usize) -> bool
     ensures { result ≡ not (ltb 0 (channel_of (view s.now) o).held) }
 {
-    if 16 <= o {
-        return true;
-    }
-    !(0 < channels::get_held(s, o))
+    layout::CHANNELS <= o || channels::get_held(s, o) == 0
 }
 
 // It has nothing to take.
-fn has_nothing(s: &[u8], i: usize) -> bool
-    requires { (i < task_count) × Image s.now }
+fn has_nothing(s: &Image, i: usize) -> bool
+    requires { i < task_count }
     ensures { result ≡ offers_nothing (view s.now) i }
 {
-    let state = tasks::get_state(s, i);
     let object = tasks::get_object(s, i) as usize;
-    if state == 2 {
-        return is_empty(s, object);
+    match tasks::get_state(s, i) {
+        tasks::WAITS_SEMAPHORE => is_empty(s, object),
+        tasks::WAITS_MUTEX => is_held(s, object),
+        tasks::WAITS_MESSAGE => has_no_message(s, object),
+        _ => true,
     }
-    if state == 3 {
-        return is_held(s, object);
-    }
-    if state == 5 {
-        return has_no_message(s, object);
-    }
-    true
 }
 
 // The task does not hold it.
-fn is_apart(s: &[u8], i: usize) -> bool
-    requires { (i < task_count) × Image s.now }
+fn is_apart(s: &Image, i: usize) -> bool
+    requires { i < task_count }
     ensures { result ≡ is_apart (view s.now) i }
 {
-    let state = tasks::get_state(s, i);
-    let object = tasks::get_object(s, i) as usize;
-    if state == 3 {
-        return chain::holder_of(s, object) != i;
-    }
-    true
+    tasks::get_state(s, i) != tasks::WAITS_MUTEX
+        || chain::holder_of(s, tasks::get_object(s, i) as usize) != i
 }
 
-pub fn is_right(s: &[u8], rule: u32, i: usize) -> bool
-    requires { Image s.now }
+#[tactic(auto, unfolding(crate::specs::Tests::kept_in))]
+pub fn is_right(s: &Image, rule: u32, i: usize) -> bool
     ensures { result ≡ kept_in wait_tests rule i (view s.now) }
 {
     if 32 <= i {
@@ -107,8 +81,8 @@ pub fn is_right(s: &[u8], rule: u32, i: usize) -> bool
 }
 
 // The holder of mutex m, if it has one, is in use.
-fn is_holder_used(s: &[u8], m: usize) -> bool
-    requires { (m < mutex_count) × Image s.now }
+fn is_holder_used(s: &Image, m: usize) -> bool
+    requires { m < mutex_count }
     ensures { result ≡ is_holder_used (view s.now) m }
 {
     let h = mutexes::get_holder(s, m);
@@ -121,8 +95,8 @@ fn is_holder_used(s: &[u8], m: usize) -> bool
     tasks::get_used(s, h as usize - 1) == 1
 }
 
-pub fn is_holder_right(s: &[u8], rule: u32, m: usize) -> bool
-    requires { Image s.now }
+#[tactic(auto, unfolding(crate::specs::Tests::kept_in))]
+pub fn is_holder_right(s: &Image, rule: u32, m: usize) -> bool
     ensures { result ≡ kept_in holder_tests rule m (view s.now) }
 {
     if 16 <= m {

@@ -3,13 +3,14 @@ ghost use Rattle.std.specs.Prelude.{◌≡◌, ◌<◌, eqb};
 ghost use Rattle.rules.specs.Sizes.{task_count};
 ghost use Rattle.rules.specs.Table.{task_of};
 ghost use Rattle.rules.specs.Move.{fresh_in};
-ghost use Rattle.table.specs.Image.{Image, view};
+ghost use Rattle.table.specs.Image.{view};
 ghost use Rattle.why.specs.Tests.{kept_in, work_tests};
 
+use table::layout::Image;
 use table::{numbers, tasks};
 
-fn is_worked(s: &[u8], i: usize) -> bool
-    requires { (i < task_count) × Image s.now }
+fn is_worked(s: &Image, i: usize) -> bool
+    requires { i < task_count }
     ensures { result ≡ eqb (task_of (view s.now) i).work (fresh_in (view s.now) i) }
 {
     let mut given = [255u8; 32];
@@ -18,8 +19,8 @@ fn is_worked(s: &[u8], i: usize) -> bool
     tasks::get_work(s, i) == fresh
 }
 
-pub fn is_right(s: &[u8], rule: u32, i: usize) -> bool
-    requires { Image s.now }
+#[tactic(auto, unfolding(crate::specs::Tests::kept_in))]
+pub fn is_right(s: &Image, rule: u32, i: usize) -> bool
     ensures { result ≡ kept_in work_tests rule i (view s.now) }
 {
     if 32 <= i {

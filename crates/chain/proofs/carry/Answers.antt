@@ -4,31 +4,15 @@ use Rattle.chain.proofs.carry.Goals as goal
 
 pub loop-j-init : goal.loop-j-init
 loop-j-init c =
-    carrying_start (omega arith) c.get_base-base.ensures c.next_of-j.ensures c.requires.2
-
-pub bounds-given-j : goal.bounds-given-j
-bounds-given-j c =
-    omega (arith, c.loop-j.invariant.size)
-
-pub shape_of-given-then-v-base : goal.shape_of-given-then-v-base
-shape_of-given-then-v-base c =
-    omega (arith, c.loop-j.invariant.size, c.requires.2.size)
+    carrying_start (omega arith) c.get_base-base.ensures c.next_of-j.ensures c.requires.1
 
 pub returns-then-v-base : goal.returns-then-v-base
 returns-then-v-base c =
     carrying_end c.loop-j.invariant (λ h. omega arith)
 
-pub shape_of-given-then-own-base : goal.shape_of-given-then-own-base
-shape_of-given-then-own-base c =
-    omega (arith, c.loop-j.invariant.size, c.requires.2.size)
-
 pub returns-then-own-base : goal.returns-then-own-base
 returns-then-own-base c =
     carrying_end c.loop-j.invariant (λ h. omega (arith, c.get_base-own.ensures))
-
-pub bounds-given-j-in-loop-j : goal.bounds-given-j-in-loop-j
-bounds-given-j-in-loop-j c =
-    omega (arith, c.loop-j.invariant.size)
 
 pub loop-j-smaller : goal.loop-j-smaller
 loop-j-smaller c =
@@ -38,11 +22,3 @@ loop-j-smaller c =
 pub loop-j-preserved : goal.loop-j-preserved
 loop-j-preserved c =
     carrying_on c.loop-j.invariant (omega arith) (omega (arith, c.get_base-own.ensures)) c.next_of-j-in-loop-j.ensures
-
-pub shape_of-given : goal.shape_of-given
-shape_of-given c =
-    omega (arith, c.loop-j.invariant.size, c.requires.2.size)
-
-pub returns : goal.returns
-returns c =
-    carrying_end c.loop-j.invariant (λ h. absurd (omega arith))

@@ -1,5 +1,4 @@
-use Prim.Native.Nat.{◌-◌, ◌%◌, ◌≤◌}
-use mathlib.Core.Path.{◌≡◌}
+use Rattle.std.proofs.Common.{◌≡◌, ◌%◌, ◌≤◌}
 use Rattle.rules.specs.Move.{next, base_of}
 use Rattle.table.specs.Image.{view}
 use Rattle.chain.specs.Carry.{HadTurns}
@@ -7,6 +6,3 @@ use Rattle.chain.proofs.carry_all.Given as goal
 
 abbrev pub invariant-loop-a : goal.invariant-loop-a
 invariant-loop-a l = (l.a ≤ 32) × (l.a % 8 ≡ 0) × HadTurns 32 (next (view l.s)) (base_of (view l.s)) l.a l.given
-
-abbrev pub decreases-loop-a : goal.decreases-loop-a
-decreases-loop-a l = 32 - l.a

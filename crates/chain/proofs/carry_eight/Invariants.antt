@@ -1,11 +1,7 @@
-use Prim.Native.Nat.{◌+◌, ◌-◌, ◌≤◌}
 use Rattle.rules.specs.Move.{next, base_of}
 use Rattle.table.specs.Image.{view}
 use Rattle.chain.specs.Carry.{HadTurns}
 use Rattle.chain.proofs.carry_eight.Given as goal
 
 abbrev pub invariant-loop-i : goal.invariant-loop-i
-invariant-loop-i l = (l.i ≤ l.a + 8) × HadTurns 32 (next (view l.s)) (base_of (view l.s)) l.i l.given
-
-abbrev pub decreases-loop-i : goal.decreases-loop-i
-decreases-loop-i l = l.a + 8 - l.i
+invariant-loop-i l = HadTurns 32 (next (view l.s)) (base_of (view l.s)) l.i l.given

@@ -9,10 +9,10 @@ use Rattle.table.specs.Shape.{view-shaped}
 use Rattle.laws.specs.chains.Graph.{no_holder, written-holder}
 use Rattle.chain.proofs.holder_of.Goals as goal
 
-pub returns-then-m-ge16 : goal.returns-then-m-ge16
-returns-then-m-ge16 c =
+pub returns-then-m-ge-MUTEXES : goal.returns-then-m-ge-MUTEXES
+returns-then-m-ge-MUTEXES c =
     let t = view c.args.s.now in
-    sym (no_holder t c.args.m (ap (λ (x : Mutex). x.holder) (get_or-eq_default t.mutexes no_mutex {n = c.args.m} (omega (arith, (view-shaped c.args.s.now c.requires).mutexes)))))
+    sym (no_holder t c.args.m (ap (λ (x : Mutex). x.holder) (get_or-eq_default t.mutexes no_mutex {n = c.args.m} (omega (arith, (view-shaped c.args.s.now (omega arith)).mutexes)))))
 
 pub returns-then-v-eq0 : goal.returns-then-v-eq0
 returns-then-v-eq0 c =

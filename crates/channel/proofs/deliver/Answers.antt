@@ -3,10 +3,10 @@ use Rattle.table.specs.Image.{view}
 use Rattle.channel.proofs.Laws.{delivered_none, delivered_one}
 use Rattle.channel.proofs.deliver.Goals as goal
 
-pub returns-then-i-ge32 : goal.returns-then-i-ge32
-returns-then-i-ge32 c =
-    let a = c.args in delivered_none a.i a.v (view a.s.now) c.if-i-ge32.true
+pub returns-then-i-ge-TASKS : goal.returns-then-i-ge-TASKS
+returns-then-i-ge-TASKS c =
+    let a = c.args in delivered_none a.i a.v (view a.s.now) c.if-i-ge-TASKS.true
 
 pub returns : goal.returns
 returns c =
-    let a = c.args in c.set_message.ensures ∙ delivered_one a.i a.v (view a.s.now) c.if-i-ge32.false
+    let a = c.args in c.set_message.ensures ∙ delivered_one a.i a.v (view a.s.now) c.if-i-ge-TASKS.false

@@ -1,28 +1,18 @@
-use mathlib.Core.Path.{refl}
-use native.Mathlib.Omega.{arith}
-use borrow.Author.Tests.{le-leb, lt-leb, ne_eqb}
+use mathlib.Core.Path.{ap, ◌∙◌}
+use Rattle.rules.specs.Move.{chosen}
 use Rattle.rules.specs.Channel.{flush_answer, flush}
-use Rattle.service.specs.Told.{tells-refused, tells}
+use Rattle.table.specs.Image.{view}
+use Rattle.service.specs.Told.{tells}
+use Rattle.channel.proofs.Laws.{flush-refused}
 use Rattle.channel.proofs.flush.Goals as goal
 
-pub returns-then-i-ge16 : goal.returns-then-i-ge16
+pub returns-in_err-j : goal.returns-in_err-j
 unfolding flush_answer
-returns-then-i-ge16 c =
-    tells-refused (rw (le-leb _ _ c.if-i-ge16.true)) (omega arith) refl
-
-pub returns-then-not-get_used : goal.returns-then-not-get_used
-unfolding flush_answer
-returns-then-not-get_used c =
-    tells-refused (rw (lt-leb _ _ c.if-i-ge16.false, ← c.get_used.ensures, ne_eqb _ _ c.if-not-get_used.true)) (omega arith) refl
-
-pub overflow_cast-result : goal.overflow_cast-result
-overflow_cast-result c =
-    omega (arith, c.count_in-n.ensures.1)
+returns-in_err-j c =
+    flush-refused c.args.i (view c.args.s.now) c.in_err-j.field-0.0 c.from_residual.result c.from_residual.ensures.1 (c.in_err-j.ensures.answers _)
 
 pub returns : goal.returns
 unfolding flush_answer flush
 returns c =
-    tells (rw (lt-leb _ _ c.if-i-ge16.false, ← c.get_used.ensures, c.if-not-get_used.false)) c.count_in-n.ensures.0 (cc)
-
-pub overflow_mul-result : goal.overflow_mul-result
-overflow_mul-result c = omega (arith, c.count_in-n.ensures.1)
+    let same = c.in_ok-j.ensures.within.0 in
+    tells (c.in_ok-j.ensures.answers _) (rw same at c.count_in-n.ensures.0) (c.choose.ensures ∙ ap chosen (rw same at c.clear.ensures))

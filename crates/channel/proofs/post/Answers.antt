@@ -1,30 +1,32 @@
-use mathlib.Core.Path.{refl}
-use borrow.Author.Tests.{le-leb, lt-leb, lt-ltb, le-ltb, ne_eqb}
+use mathlib.Core.Path.{refl, ◌∙◌}
 use Rattle.rules.specs.Channel.{post_answer}
-use Rattle.service.specs.Serving.{refused, served}
+use Rattle.table.specs.Image.{view}
+use Rattle.service.specs.Serving.{handed-on, refused, served}
+use Rattle.channel.proofs.Laws.{bad_front, full, not-full}
 use Rattle.channel.proofs.post.Goals as goal
 
-pub returns-then-i-ge16 : goal.returns-then-i-ge16
+pub returns-in_err-j : goal.returns-in_err-j
 unfolding post_answer
-returns-then-i-ge16 c =
-    refused (rw (le-leb _ _ c.if-i-ge16.true)) refl
-
-pub returns-then-not-get_used : goal.returns-then-not-get_used
-unfolding post_answer
-returns-then-not-get_used c =
-    refused (rw (lt-leb _ _ c.if-i-ge16.false, ← c.get_used.ensures, ne_eqb _ _ c.if-not-get_used.true)) refl
+returns-in_err-j c =
+    handed-on c.in_err-j.field-0.0 c.from_residual.result c.from_residual.ensures.1 (c.in_err-j.ensures.answers _)
 
 pub returns-then-front-gt1 : goal.returns-then-front-gt1
 unfolding post_answer
 returns-then-front-gt1 c =
-    refused (rw (lt-leb _ _ c.if-i-ge16.false, ← c.get_used.ensures, c.if-not-get_used.false, lt-ltb _ _ c.if-front-gt1.true)) refl
+    let a = c.args in
+    refused (bad_front a.i a.front (view a.s.now) c.if-front-gt1.true ∙ c.in_ok-j.ensures.answers _) refl
 
 pub returns-then-capacity-get_held : goal.returns-then-capacity-get_held
 unfolding post_answer
 returns-then-capacity-get_held c =
-    refused (rw (lt-leb _ _ c.if-i-ge16.false, ← c.get_used.ensures, c.if-not-get_used.false, le-ltb _ _ c.if-front-gt1.false, ← c.get_capacity-capacity.ensures, ← c.get_held.ensures, le-leb _ _ c.if-capacity-get_held.true)) refl
+    let a = c.args in
+    let same = c.in_ok-j.ensures.within.0 in
+    refused (full a.i a.front (view a.s.now) c.if-front-gt1.false (rw same at c.get_capacity-capacity.ensures) (rw same at c.get_held.ensures) c.if-capacity-get_held.true ∙ c.in_ok-j.ensures.answers _) refl
 
 pub returns : goal.returns
 unfolding post_answer
 returns c =
-    served (rw (lt-leb _ _ c.if-i-ge16.false, ← c.get_used.ensures, c.if-not-get_used.false, le-ltb _ _ c.if-front-gt1.false, ← c.get_capacity-capacity.ensures, ← c.get_held.ensures, lt-leb _ _ c.if-capacity-get_held.false)) refl c.give.ensures
+    let a = c.args in
+    let same = c.in_ok-j.ensures.within.0 in
+    served (not-full a.i a.front (view a.s.now) c.if-front-gt1.false (rw same at c.get_capacity-capacity.ensures) (rw same at c.get_held.ensures) c.if-capacity-get_held.false ∙ c.in_ok-j.ensures.answers _) refl
+    (rw same at c.give.ensures)

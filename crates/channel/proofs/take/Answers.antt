@@ -1,17 +1,19 @@
 use mathlib.Core.Path.{refl}
-use borrow.Author.Tests.{lt-ltb, le-ltb}
-use Rattle.rules.specs.Object.{waits}
+use Prim.Native.Nat.{◌<◌}
+use native.Mathlib.Omega.{arith}
+use borrow.Author.Tests.{lt-ltb}
 use Rattle.rules.specs.Channel.{wait}
 use Rattle.service.specs.Serving.{served}
 use Rattle.channel.proofs.take.Goals as goal
 
-pub returns-then-get_held-gt0 : goal.returns-then-get_held-gt0
+pub returns-then-get_held-eq0 : goal.returns-then-get_held-eq0
 unfolding wait
-returns-then-get_held-gt0 c =
-    let some = rw c.get_held.ensures at (lt-ltb _ _ c.if-get_held-gt0.true) in
-    served (rw some) refl (rw some (cc c.caller_of-caller.ensures.0))
+returns-then-get_held-eq0 c =
+    rw (← c.get_held.ensures, c.if-get_held-eq0.true) c.wait_for.ensures
 
 pub returns : goal.returns
-unfolding wait waits
+unfolding wait
 returns c =
-    rw (rw c.get_held.ensures at (le-ltb _ _ c.if-get_held-gt0.false)) c.wait_for.ensures
+    let more : 0 < c.get_held.result = omega arith in
+    let some = rw c.get_held.ensures at (lt-ltb _ _ more) in
+    served (rw some) refl (rw some (cc c.caller_of-caller.ensures.0))

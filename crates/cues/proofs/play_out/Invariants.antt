@@ -1,11 +1,7 @@
-use mathlib.Core.Path.{◌≡◌}
-use Prim.Native.Nat.{◌-◌, ◌≤◌}
+use Prim.Native.Nat.{◌-◌}
 use lib.ListN.{length}
 use Rattle.cues.proofs.Going.{Going}
 use Rattle.cues.proofs.play_out.Given as goal
 
 abbrev pub invariant-loop-n : goal.invariant-loop-n
-invariant-loop-n l = (l.n ≤ length l.out) × (length l.cues ≡ length l.initial.cues) × (length l.out ≡ length l.initial.out) × Going l.initial.cues l.initial.out l.n (length l.out - l.n) l.cues l.out
-
-abbrev pub decreases-loop-n : goal.decreases-loop-n
-decreases-loop-n l = length l.out - l.n
+invariant-loop-n l = Going l.initial.cues l.initial.out l.n (length l.out - l.n) l.cues l.out

@@ -1,20 +1,10 @@
-use Rattle.rules.specs.Object.{object_create_answer}
+use mathlib.Core.Path.{refl, ap, ◌∙◌}
+use Rattle.rules.specs.Move.{chosen}
 use Rattle.rules.specs.Group.{create}
-use Rattle.service.specs.Serving.{refuse, serve}
-use Rattle.object.specs.Answers.{create-range}
-use borrow.Author.Rules.{rules}
+use Rattle.service.specs.Serving.{served}
 use Rattle.group.proofs.create.Goals as goal
 
-pub returns-then-refuses : goal.returns-then-refuses
-unfolding object_create_answer
-returns-then-refuses c =
-    refuse (rw (← c.used_at-used.ensures) c.create_answer-n.ensures) c.refuses.ensures c.if-refuses.true
-
-pub store-requires : goal.store-requires
-store-requires c =
-    (create-range 8 c.args.i c.used_at-used.result c.create_answer-n.ensures c.refuses.ensures c.if-refuses.false, search rules)
-
 pub returns : goal.returns
-unfolding object_create_answer create
+unfolding create
 returns c =
-    serve (rw (← c.used_at-used.ensures) c.create_answer-n.ensures) c.refuses.ensures c.if-refuses.false (cc)
+    served c.in_ok-j.ensures.answers refl (c.choose.ensures ∙ ap chosen (rw c.in_ok-j.ensures.within.0 at c.store.ensures))

@@ -1,84 +1,44 @@
-use mathlib.Core.Path.{refl, sym, ◌∙◌}
+use mathlib.Core.Path.{◌≡◌, refl, sym, ap, ◌∙◌}
+use Prim.Native.Nat.{◌+◌, ◌-◌, ◌≤◌}
 use native.Mathlib.Omega.{arith}
+use Rattle.rules.specs.Table.{Asked}
+use Rattle.rules.specs.Group.{is_met, consumed, woken}
 use Rattle.table.specs.Image.{view}
 use Rattle.group.proofs.Laws.{woken_end, woken-over, woken_wakes, woken-waits}
+use Rattle.group.proofs.wake.Goals.{then-is_met, else-is_met}
 use Rattle.group.proofs.wake.Goals as goal
-
-pub loop-left-init : goal.loop-left-init
-loop-left-init c =
-    (omega arith, refl, refl)
-
-pub overflow_add-i : goal.overflow_add-i
-overflow_add-i c =
-    omega (arith, c.requires.0)
-
-pub slot_in-v-requires : goal.slot_in-v-requires
-slot_in-v-requires c =
-    let p = c.requires in
-    (omega (arith, p.0), omega (arith, c.loop-left.invariant.0, c.loop-left-test.true), c.loop-left.invariant.1 ∙ p.1)
-
-pub set_flags-requires : goal.set_flags-requires
-set_flags-requires c =
-    let p = c.requires in
-    (p.0, c.loop-left.invariant.1 ∙ p.1)
-
-pub shape_of-s-then-v-eq0 : goal.shape_of-s-then-v-eq0
-shape_of-s-then-v-eq0 c =
-    c.s-1.given ∙ c.loop-left.invariant.1
 
 pub returns-then-v-eq0 : goal.returns-then-v-eq0
 returns-then-v-eq0 c =
     let a = c.args in
-    c.set_flags.ensures
-    ∙ sym (woken-over a.i a.flags c.loop-left.k c.loop-left.together (view c.loop-left.s) c.loop-left.left c.slot_in-v.ensures c.if-v-eq0.true)
-    ∙ sym c.loop-left.invariant.2
+    let l = c.loop in
+    c.set_flags.ensures ∙ sym (woken-over a.i a.flags l.k l.together (view l.s) (32 - l.counter) c.slot_in-v.ensures c.if-v-eq0.true) ∙ sym l.invariant.1
 
-pub wakes-requires : goal.wakes-requires
-wakes-requires c =
-    c.loop-left.invariant.1 ∙ c.requires.1
-
-pub eats-together-requires : goal.eats-together-requires
-eats-together-requires c =
-    c.loop-left.invariant.1 ∙ c.requires.1
-
-pub end_wait-requires : goal.end_wait-requires
-end_wait-requires c =
-    c.loop-left.invariant.1 ∙ c.requires.1
-
-pub loop-left-preserved-then-wakes : goal.loop-left-preserved-then-wakes
-loop-left-preserved-then-wakes c =
-    let a = c.args in (
-      omega (arith, c.loop-left.invariant.0),
-      c.s-then-wakes-1.given ∙ c.loop-left.invariant.1,
-      c.loop-left.invariant.2
-          ∙ woken_wakes a.i a.flags c.loop-left.k c.loop-left.together (view c.loop-left.s) c.loop-left.left c.slot_in-v.ensures (λ z. omega (arith, c.loop-left-test.true)) c.if-v-eq0.false c.wakes.ensures c.if-wakes.true c.eats-together.ensures c.end_wait.ensures,
-    )
-
-pub loop-left-preserved : goal.loop-left-preserved
-loop-left-preserved c =
-    let a = c.args in (
-      omega (arith, c.loop-left.invariant.0, c.loop-left-test.true),
-      c.loop-left.invariant.1,
-      c.loop-left.invariant.2
-          ∙ woken-waits a.i a.flags c.loop-left.k c.loop-left.together (view c.loop-left.s) c.loop-left.left c.slot_in-v.ensures (λ z. omega (arith, c.loop-left-test.true)) c.if-v-eq0.false c.wakes.ensures c.if-wakes.false,
-    )
-
-pub overflow_add-k : goal.overflow_add-k
-overflow_add-k c =
-    omega (arith, c.loop-left.invariant.0)
-
-pub set_flags-requires-2 : goal.set_flags-requires-2
-set_flags-requires-2 c =
-    let p = c.requires in
-    (p.0, c.loop-left.invariant.1 ∙ p.1)
-
-pub shape_of-s : goal.shape_of-s
-shape_of-s c =
-    c.s-2-1.given ∙ c.loop-left.invariant.1
+pub loop-preserved : goal.loop-preserved
+loop-preserved c =
+    let a = c.args in
+    let l = c.loop in
+    let t = view l.s in
+    let v = c.slot_in-v.result in
+    let more : 32 - l.counter ≡ 0 → ⊥ = λ z. omega (arith, z, c.loop-test.true) in
+    let less : 32 - l.counter - 1 ≡ 32 - (l.counter + 1) = omega arith in
+    let asked = c.asked_by-asked.ensures in
+    let met = c.is_met.ensures ∙ ap (λ (x : Asked). is_met a.flags x) asked in
+    elim c.if-is_met.branch [
+      | then-is_met w ↦ (
+        omega (arith, w.k-is, l.invariant.0),
+        rw (w.s-is, w.k-is, w.together-is, ← less)
+            (l.invariant.1 ∙ woken_wakes a.i a.flags l.k l.together t (32 - l.counter) c.slot_in-v.ensures more c.if-v-eq0.false met w.if-is_met.true (w.consumed-together.ensures ∙ ap (λ (x : Asked). consumed a.flags x) asked) w.end_wait.ensures),
+      )
+      | else-is_met w ↦ (
+        omega (arith, w.k-is, l.invariant.0),
+        rw (w.s-is, w.k-is, w.together-is, ← less)
+            (l.invariant.1 ∙ woken-waits a.i a.flags l.k l.together t (32 - l.counter) c.slot_in-v.ensures more c.if-v-eq0.false met w.if-is_met.false),
+      )
+    ]
 
 pub returns : goal.returns
 returns c =
     let a = c.args in
-    c.set_flags-2.ensures
-    ∙ sym (woken_end a.i a.flags c.loop-left.k c.loop-left.together (view c.loop-left.s) c.loop-left.left (omega (arith, c.loop-left-test.false)))
-    ∙ sym c.loop-left.invariant.2
+    let l = c.loop in
+    c.set_flags-2.ensures ∙ sym (woken_end a.i a.flags l.k l.together (view l.s) (32 - l.counter) (omega (arith, c.loop-test.false))) ∙ sym l.invariant.1

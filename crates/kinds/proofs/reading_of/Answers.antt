@@ -1,8 +1,9 @@
-use Rattle.kinds.specs.Row.{row-says}
+use Rattle.std.proofs.Common.{rules, ◌≡◌}
+use Rattle.std.specs.Option.{option_map}
+use Rattle.kinds.specs.Row.{Row, row-says}
 use Rattle.kinds.proofs.reading_of.Goals as goal
 
-pub returns-in-Has : goal.returns-in-Has
-returns-in-Has c = row-says _ _ c.is_interrupt-interrupt.ensures c.plain_kind.ensures c.row_of-row.ensures c.in-Has.is
-
-pub returns-in-Lacks : goal.returns-in-Lacks
-returns-in-Lacks c = row-says _ _ c.is_interrupt-interrupt.ensures c.plain_kind.ensures c.row_of-row.ensures c.in-Lacks.is
+pub returns : goal.returns
+returns c =
+    let e : c.map.result ≡ option_map (λ (x : Row). x.0) c.row_of.result = search rules in
+    rw (e, c.is_interrupt.ensures, c.row_of.ensures, c.plain_kind.ensures) (row-says _ _)

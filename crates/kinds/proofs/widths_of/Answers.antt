@@ -1,8 +1,6 @@
-use Rattle.kinds.specs.Row.{row-widths}
+use Rattle.std.proofs.Common.{rules, ◌≡◌, ◌∙◌, ap}
+use Rattle.kinds.specs.Row.{widths_in, row-widths}
 use Rattle.kinds.proofs.widths_of.Goals as goal
 
-pub returns-in-Has : goal.returns-in-Has
-returns-in-Has c = row-widths _ _ c.row_of-row.ensures c.in-Has.is
-
-pub returns-in-Lacks : goal.returns-in-Lacks
-returns-in-Lacks c = row-widths _ _ c.row_of-row.ensures c.in-Lacks.is
+pub returns : goal.returns
+returns c = let e : c.map_or.result ≡ widths_in c.row_of.result = search rules in e ∙ ap widths_in c.row_of.ensures ∙ row-widths _ _

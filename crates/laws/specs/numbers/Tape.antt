@@ -1,5 +1,5 @@
 -- A tape of bytes prints the same whether each call tests the table first (`step`) or not (`serve`).
-use Rattle.std.specs.Prelude.{◌≡◌, refl, Bool, List, [], ◌∷◌, ℕ, zero, suc, ◌+◌, ◌≤◌, ◌<◌, ◌^◌, length, get_or, take, drop}
+use Rattle.std.specs.Prelude.{◌≡◌, refl, Bool, List, [], ◌∷◌, ℕ, zero, suc, ◌+◌, ◌≤◌, ◌<◌, ◌^◌, length, get_or, take, drop, Option, Some, None}
 use Rattle.std.proofs.Common.{subst, pow-suc, arith, get_or-drop}
 use Rattle.std.proofs.Math.Nat.{one-le-pow, pow-le-pow_right}
 use Rattle.queue.specs.Order.{All, none, more}
@@ -7,12 +7,11 @@ use Rattle.rules.specs.Sizes.{ticks_round}
 use Rattle.rules.specs.Table.{Table, fresh_table}
 use Rattle.rules.specs.Sound.{Sound}
 use Rattle.rules.specs.Step.{Bounded, serve, step}
-use Rattle.rules.specs.Kinds.{kinds, plain_kind, of_kind, reading, spelled, numbers_of}
+use Rattle.rules.specs.Kinds.{kinds, plain_kind, of_kind, says_call, reading, spelled, numbers_of}
 use Rattle.rules.specs.KindLaws.{end, with, told_each, all_at, widths-narrow}
 use Rattle.rules.specs.Tape.{Bytes, little, numbers, body_length, call_in, printed_of, printed, tape}
 use Rattle.rules.specs.declared.Call.{Call}
 use Rattle.rules.specs.declared.Reading.{Reading}
-use Rattle.rules.specs.declared.Reading.TheVariants.{Says, Unknown}
 use Rattle.laws.specs.keeps.Sounds.{serve-sound, step-serve, fresh-sound}
 
 -- ---- numbers made of bytes
@@ -44,8 +43,7 @@ numbers-small (w ∷ ws) l four b (suc i) = numbers-small ws (drop w l) (λ j. f
 
 -- The numbers of the call that a reading says have 32 bits.
 abbrev pub BoundedIn : Reading → Type 0
-BoundedIn (Says c interrupt) = Bounded c
-BoundedIn (Unknown interrupt) = Unit {0}
+BoundedIn r = elim (r.call) as (λ _. Type 0) [ Some c ↦ Bounded c | None ↦ Unit {0} ]
 
 bounded : (c : Call) → All (λ n. n < ticks_round) (numbers_of c) → Bounded c
 unfolding Bounded
@@ -60,7 +58,7 @@ unfolding call_in reading
 reading-bounded kind body b = kind-bounded (plain_kind kind) _ _ (numbers-small _ body (widths-narrow (plain_kind kind)).four b)
 
 -- A call that is read from bytes has numbers of 32 bits.
-pub call-bounded : (kind : ℕ) (body : List ℕ) {c : Call} {interrupt : Bool} → Bytes body → call_in kind body ≡ Says c interrupt → Bounded c
+pub call-bounded : (kind : ℕ) (body : List ℕ) {c : Call} {interrupt : Bool} → Bytes body → call_in kind body ≡ says_call c interrupt → Bounded c
 call-bounded kind body b e = subst BoundedIn e (reading-bounded kind body b)
 
 -- ---- the tape
@@ -68,8 +66,11 @@ call-bounded kind body b e = subst BoundedIn e (reading-bounded kind body b)
 one_served : {t : Table} → Sound t → (cut : Bool) {rest rest' : Table → List ℕ} → ((u : Table) → Sound u → rest u ≡ rest' u) → (r : Reading) → BoundedIn r
     → printed_of step t cut rest r ≡ printed_of serve t cut rest' r
 unfolding printed_of
-one_served s cut same (Unknown interrupt) b = refl
-one_served {t} s cut same (Says c interrupt) b = rw (step-serve s c interrupt, same (serve c interrupt t).table (serve-sound s c b interrupt))
+one_served {t} s cut {rest} {rest'} same r = go r.call
+  where
+    go : (call : Option Call) → let r' : Reading = record { call = call; interrupt = r.interrupt } in BoundedIn r' → printed_of step t cut rest r' ≡ printed_of serve t cut rest' r'
+    go None b = refl
+    go (Some c) b = rw (step-serve s c r.interrupt, same (serve c r.interrupt t).table (serve-sound s c b r.interrupt))
 
 -- From a sound table the test at each call changes nothing of what is printed.
 pub printed-served : {t : Table} → Sound t → (n : ℕ) (l : List ℕ) → Bytes l → printed step n t l ≡ printed serve n t l

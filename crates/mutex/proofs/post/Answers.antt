@@ -1,30 +1,28 @@
-use mathlib.Core.Path.{refl}
-use borrow.Author.Tests.{le-leb, lt-leb, eq-eqb, ne_eqb}
-use Rattle.rules.specs.Mutex.{post_answer}
-use Rattle.service.specs.Serving.{refused, served}
+use mathlib.Core.Path.{refl, ◌∙◌}
+use Rattle.table.specs.Image.{view}
+use Rattle.service.specs.Serving.{handed-on, refused, served}
+use Rattle.mutex.proofs.Laws.{nobody-posts, posts, not-own, own_mutex}
 use Rattle.mutex.proofs.post.Goals as goal
 
 pub returns-then-get_running-eq0 : goal.returns-then-get_running-eq0
-unfolding post_answer
 returns-then-get_running-eq0 c =
-    refused (rw (← c.get_running.ensures, eq-eqb _ _ c.if-get_running-eq0.true)) refl
+    refused (nobody-posts c.args.i (view c.args.s.now) c.get_running.ensures c.if-get_running-eq0.true) refl
 
-pub returns-then-i-ge16 : goal.returns-then-i-ge16
-unfolding post_answer
-returns-then-i-ge16 c =
-    refused (rw (← c.get_running.ensures, ne_eqb _ _ c.if-get_running-eq0.false, le-leb _ _ c.if-i-ge16.true)) refl
-
-pub returns-then-not-get_used : goal.returns-then-not-get_used
-unfolding post_answer
-returns-then-not-get_used c =
-    refused (rw (← c.get_running.ensures, ne_eqb _ _ c.if-get_running-eq0.false, lt-leb _ _ c.if-i-ge16.false, ← c.get_used.ensures, ne_eqb _ _ c.if-not-get_used.true)) refl
+pub returns-in_err-j : goal.returns-in_err-j
+returns-in_err-j c =
+    handed-on c.in_err-j.field-0.0 c.from_residual.result c.from_residual.ensures.1 (posts c.args.i (view c.args.s.now) c.get_running.ensures c.if-get_running-eq0.false (c.in_err-j.ensures.answers _))
 
 pub returns-then-not-is_own : goal.returns-then-not-is_own
-unfolding post_answer
 returns-then-not-is_own c =
-    refused (rw (← c.is_own.ensures, ← c.get_running.ensures, ne_eqb _ _ c.if-get_running-eq0.false, lt-leb _ _ c.if-i-ge16.false, ← c.get_used.ensures, c.if-not-get_used.false, c.if-not-is_own.true)) refl
+    let i = c.args.i in
+    let t = view c.args.s.now in
+    let own = rw c.in_ok-j.ensures.within.0 at c.is_own.ensures in
+    refused (posts i t c.get_running.ensures c.if-get_running-eq0.false (not-own i t own c.if-not-is_own.true ∙ c.in_ok-j.ensures.answers _)) refl
 
 pub returns : goal.returns
-unfolding post_answer
 returns c =
-    served (rw (← c.is_own.ensures, ← c.get_running.ensures, ne_eqb _ _ c.if-get_running-eq0.false, lt-leb _ _ c.if-i-ge16.false, ← c.get_used.ensures, c.if-not-get_used.false, c.if-not-is_own.false)) refl c.give.ensures
+    let i = c.args.i in
+    let t = view c.args.s.now in
+    let own = rw c.in_ok-j.ensures.within.0 at c.is_own.ensures in
+    served (posts i t c.get_running.ensures c.if-get_running-eq0.false (own_mutex i t own c.if-not-is_own.false ∙ c.in_ok-j.ensures.answers _)) refl
+    (rw c.in_ok-j.ensures.within.0 at c.give.ensures)

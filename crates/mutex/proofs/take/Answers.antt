@@ -13,18 +13,18 @@ returns-then-holder-eq0 c =
     let k = c.caller_of-caller.ensures.0 in
     served (takes-answer a.i t h k a.block c.if-holder-eq0.true) refl (c.hold.ensures ∙ ap chosen (takes a.i t h k a.limit c.if-holder-eq0.true))
 
-pub returns-then-not-holder-caller : goal.returns-then-not-holder-caller
-returns-then-not-holder-caller c =
+pub returns-then-holder-caller : goal.returns-then-holder-caller
+returns-then-holder-caller c =
     let a = c.args in
     let t = view a.s.now in
     let h = c.get_holder-holder.ensures in
     let k = c.caller_of-caller.ensures.0 in
-    told (blocks-answer a.i t h k c.if-holder-eq0.false c.if-not-holder-caller.true a.block) (ap chosen (blocks a.i t h k c.if-holder-eq0.false c.if-not-holder-caller.true a.limit)) c.wait_for.ensures
+    told (blocks-answer a.i t h k c.if-holder-eq0.false c.if-holder-caller.true a.block) (ap chosen (blocks a.i t h k c.if-holder-eq0.false c.if-holder-caller.true a.limit)) c.wait_for.ensures
 
-pub returns-then-n-ge250 : goal.returns-then-n-ge250
-returns-then-n-ge250 c =
+pub returns-then-n-ge-MOST_NESTED : goal.returns-then-n-ge-MOST_NESTED
+returns-then-n-ge-MOST_NESTED c =
     let a = c.args in
-    refused (deep_answer a.i (view a.s.now) c.get_holder-holder.ensures c.caller_of-caller.ensures.0 c.if-holder-eq0.false c.if-not-holder-caller.false c.get_nesting-n.ensures a.block c.if-n-ge250.true) refl
+    refused (deep_answer a.i (view a.s.now) c.get_holder-holder.ensures c.caller_of-caller.ensures.0 c.if-holder-eq0.false c.if-holder-caller.false c.get_nesting-n.ensures a.block c.if-n-ge-MOST_NESTED.true) refl
 
 pub returns : goal.returns
 returns c =
@@ -33,5 +33,5 @@ returns c =
     let h = c.get_holder-holder.ensures in
     let k = c.caller_of-caller.ensures.0 in
     let n = c.get_nesting-n.ensures in
-    served (nests-answer a.i t h k c.if-holder-eq0.false c.if-not-holder-caller.false n a.block c.if-n-ge250.false) refl
-    (c.hold-2.ensures ∙ ap chosen (nests a.i t h k c.if-holder-eq0.false c.if-not-holder-caller.false n a.limit))
+    served (nests-answer a.i t h k c.if-holder-eq0.false c.if-holder-caller.false n a.block c.if-n-ge-MOST_NESTED.false) refl
+    (c.hold-2.ensures ∙ ap chosen (nests a.i t h k c.if-holder-eq0.false c.if-holder-caller.false n a.limit))

@@ -1,23 +1,14 @@
+use mathlib.Core.Path.{refl}
 use Rattle.rules.specs.Mutex.{wait_answer}
-use Rattle.rules.specs.Family.{mutexes}
-use Rattle.table.specs.Image.{view}
-use Rattle.object.specs.Answers.{not_asked, asked-range, asked}
-use borrow.Author.Rules.{rules}
+use Rattle.service.specs.Serving.{handed-on, told}
 use Rattle.mutex.proofs.wait.Goals as goal
 
-pub returns-then-refuses : goal.returns-then-refuses
+pub returns-in_err-j : goal.returns-in_err-j
 unfolding wait_answer
-returns-then-refuses c =
-    let a = c.args in
-    not_asked mutexes a.i a.block (view a.s.now) c.used_at-used.ensures c.ask_answer-n.ensures c.refuses.ensures _ c.if-refuses.true
-
-pub take-requires : goal.take-requires
-take-requires c =
-    let a = c.args in
-    (asked-range mutexes a.i a.block (view a.s.now) c.used_at-used.ensures c.ask_answer-n.ensures c.refuses.ensures c.if-refuses.false, search rules)
+returns-in_err-j c =
+    handed-on c.in_err-j.field-0.0 c.from_residual.result c.from_residual.ensures.1 (c.in_err-j.ensures.answers _)
 
 pub returns : goal.returns
 unfolding wait_answer
 returns c =
-    let a = c.args in
-    asked mutexes a.i a.block (view a.s.now) c.used_at-used.ensures c.ask_answer-n.ensures c.refuses.ensures _ c.if-refuses.false c.take.ensures
+    told (c.in_ok-j.ensures.answers _) refl (rw c.in_ok-j.ensures.within.0 at c.take.ensures)

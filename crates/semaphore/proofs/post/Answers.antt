@@ -1,37 +1,34 @@
-use mathlib.Core.Path.{refl, ap, ◌∙◌}
-use borrow.Author.Tests.{le-leb, lt-leb, ne_eqb}
+use mathlib.Core.Path.{◌≡◌, refl, ap, ◌∙◌}
+use native.Mathlib.Omega.{arith}
 use Rattle.rules.specs.Move.{chosen}
-use Rattle.rules.specs.Semaphore.{post_answer}
+use Rattle.rules.specs.Semaphore.{post_answer, post}
 use Rattle.table.specs.Image.{view}
-use Rattle.service.specs.Serving.{refused, served}
-use Rattle.semaphore.proofs.Laws.{post-counts, post-gives}
+use Rattle.service.specs.Serving.{handed-on, refused, served}
+use Rattle.semaphore.proofs.Laws.{full, not-full, post-counts, post-gives}
+use Rattle.semaphore.proofs.post.Goals.{then-v-eq0, else-v-eq0}
 use Rattle.semaphore.proofs.post.Goals as goal
 
-pub returns-then-i-ge16 : goal.returns-then-i-ge16
+pub returns-in_err-j : goal.returns-in_err-j
 unfolding post_answer
-returns-then-i-ge16 c =
-    refused (rw (le-leb _ _ c.if-i-ge16.true)) refl
+returns-in_err-j c =
+    handed-on c.in_err-j.field-0.0 c.from_residual.result c.from_residual.ensures.1 (c.in_err-j.ensures.answers _)
 
-pub returns-then-not-get_used : goal.returns-then-not-get_used
+pub returns-then-count : goal.returns-then-count
 unfolding post_answer
-returns-then-not-get_used c =
-    refused (rw (lt-leb _ _ c.if-i-ge16.false, ← c.get_used.ensures, ne_eqb _ _ c.if-not-get_used.true)) refl
-
-pub returns-then-count-ge4294967295 : goal.returns-then-count-ge4294967295
-unfolding post_answer
-returns-then-count-ge4294967295 c =
-    refused (rw (lt-leb _ _ c.if-i-ge16.false, ← c.get_used.ensures, c.if-not-get_used.false, ← c.get_count-count.ensures, le-leb _ _ c.if-count-ge4294967295.true)) refl
-
-pub returns-then-v-eq0 : goal.returns-then-v-eq0
-unfolding post_answer
-returns-then-v-eq0 c =
-    let a = c.args in
-    served (rw (lt-leb _ _ c.if-i-ge16.false, ← c.get_used.ensures, c.if-not-get_used.false, ← c.get_count-count.ensures, lt-leb _ _ c.if-count-ge4294967295.false)) refl
-    (c.choose.ensures ∙ ap chosen (post-counts a.i (view a.s.now) c.first_in-v.ensures c.get_count-count.ensures c.if-v-eq0.true c.set_count.ensures))
+returns-then-count c =
+    let same = c.in_ok-j.ensures.within.0 in
+    refused (full c.args.i (view c.args.s.now) (rw same at c.get_count-count.ensures) c.if-count.true ∙ c.in_ok-j.ensures.answers _) refl
 
 pub returns : goal.returns
 unfolding post_answer
 returns c =
-    let a = c.args in
-    served (rw (lt-leb _ _ c.if-i-ge16.false, ← c.get_used.ensures, c.if-not-get_used.false, ← c.get_count-count.ensures, lt-leb _ _ c.if-count-ge4294967295.false)) refl
-    (c.choose-2.ensures ∙ ap chosen (post-gives a.i (view a.s.now) c.first_in-v.ensures c.if-v-eq0.false c.end_wait.ensures))
+    let i = c.args.i in
+    let t = view c.args.s.now in
+    let same = c.in_ok-j.ensures.within.0 in
+    let count = rw same at c.get_count-count.ensures in
+    let first = rw same at c.first_in-v.ensures in
+    let made : view c.if-v-eq0.s ≡ post i t = elim c.if-v-eq0.branch [
+      | then-v-eq0 w ↦ ap view w.s-is ∙ post-counts i t first count w.if-v-eq0.true (rw same at w.set_count.ensures)
+      | else-v-eq0 w ↦ ap view w.s-is ∙ post-gives i t first w.if-v-eq0.false w.end_wait.ensures
+    ] in
+    served (not-full i t count (omega arith) ∙ c.in_ok-j.ensures.answers _) refl (c.choose.ensures ∙ ap chosen made)

@@ -1,17 +1,19 @@
 use mathlib.Core.Path.{refl}
-use borrow.Author.Tests.{lt-ltb, le-ltb}
-use Rattle.rules.specs.Object.{waits}
+use Prim.Native.Nat.{◌<◌}
+use native.Mathlib.Omega.{arith}
+use borrow.Author.Tests.{lt-ltb}
 use Rattle.rules.specs.Semaphore.{wait}
 use Rattle.service.specs.Serving.{served}
 use Rattle.semaphore.proofs.take.Goals as goal
 
-pub returns-then-count-gt0 : goal.returns-then-count-gt0
+pub returns-then-count-eq0 : goal.returns-then-count-eq0
 unfolding wait
-returns-then-count-gt0 c =
-    let some = rw c.get_count-count.ensures at (lt-ltb _ _ c.if-count-gt0.true) in
-    served (rw some) refl (rw some (cc))
+returns-then-count-eq0 c =
+    rw (← c.get_count-count.ensures, c.if-count-eq0.true) c.wait_for.ensures
 
 pub returns : goal.returns
-unfolding wait waits
+unfolding wait
 returns c =
-    rw (rw c.get_count-count.ensures at (le-ltb _ _ c.if-count-gt0.false)) c.wait_for.ensures
+    let more : 0 < c.get_count-count.result = omega arith in
+    let some = rw c.get_count-count.ensures at (lt-ltb _ _ more) in
+    served (rw some) refl (rw some (cc))

@@ -7,5 +7,5 @@ use Rattle.sound.proofs.are_numbers_right.Goals as goal
 pub returns : goal.returns
 returns c =
     let l = c.args.s.now in
-    let f = view_fits l c.requires (λ j. omega (arith, c.shared_slice_known-1.given j)) in
+    let f = view_fits l (omega arith) c.fits-s in
     cc (numbers-row (view l) f.tick (omega (arith, f.default_quantum)))

@@ -18,7 +18,7 @@ returns-then-not-are_objects_right c =
 
 pub are_queues_right-requires : goal.are_queues_right-requires
 are_queues_right-requires c =
-    (c.requires, tasks-sound (view c.args.s.now) (sym c.are_tasks_right.ensures ∙ c.if-not-are_tasks_right.false))
+    tasks-sound (view c.args.s.now) (sym c.are_tasks_right.ensures ∙ c.if-not-are_tasks_right.false)
 
 pub returns-then-not-are_queues_right : goal.returns-then-not-are_queues_right
 returns-then-not-are_queues_right c =
@@ -27,7 +27,7 @@ returns-then-not-are_queues_right c =
 pub is_word_right-requires : goal.is_word_right-requires
 is_word_right-requires c =
     let t = view c.args.s.now in
-    (c.requires, (queued (worded t)).holds ((both itself itself).holds (sym c.are_queues_right.ensures ∙ c.if-not-are_queues_right.false)).0)
+    (queued (worded t)).holds ((both itself itself).holds (sym c.are_queues_right.ensures ∙ c.if-not-are_queues_right.false)).0
 
 pub returns : goal.returns
 returns c =

@@ -1,6 +1,6 @@
 -- A mutex's record in the image: what is read of it, and what numbers that are put into its columns change.
 use Rattle.std.specs.Prelude.{◌≡◌, refl, true, List, ℕ, ◌<◌}
-use Rattle.std.proofs.Math.Path.{sym, ap}
+use Rattle.std.proofs.Math.Path.{ap}
 use Rattle.std.proofs.Common.{◌∙◌, inl, zero-add, arith}
 use Rattle.std.proofs.Math.Logic.{inr}
 use Rattle.columns.specs.Every.{every}
@@ -25,9 +25,9 @@ unfolding every
 even = refl
 
 module _ (l : List ℕ) where
-  pub read : (i : ℕ) → i < mutex_count → stored mutex.kind layout l i ≡ mutex_of (view l) i
+  pub read : (i : ℕ) → i < mutex_count → mutex_of (view l) i ≡ stored mutex.kind layout l i
   unfolding view made
-  read i h = sym (record_read mutex.kind layout even l i h)
+  read i h = record_read mutex.kind layout even l i h
 
 -- The numbers vs in its columns from j on, at i.
 module _ (l m : List ℕ) (i j : ℕ) (vs : List ℕ) (h : Image l) where

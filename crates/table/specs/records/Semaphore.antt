@@ -1,6 +1,6 @@
 -- A semaphore's record in the image: what is read of it, and what numbers that are put into its columns change.
 use Rattle.std.specs.Prelude.{◌≡◌, refl, true, List, ℕ, ◌<◌}
-use Rattle.std.proofs.Math.Path.{sym, ap}
+use Rattle.std.proofs.Math.Path.{ap}
 use Rattle.std.proofs.Common.{◌∙◌, inl, zero-add, arith}
 use Rattle.std.proofs.Math.Logic.{inr}
 use Rattle.columns.specs.Every.{every}
@@ -25,9 +25,9 @@ unfolding every
 even = refl
 
 module _ (l : List ℕ) where
-  pub read : (i : ℕ) → i < semaphore_count → stored semaphore.kind layout l i ≡ semaphore_of (view l) i
+  pub read : (i : ℕ) → i < semaphore_count → semaphore_of (view l) i ≡ stored semaphore.kind layout l i
   unfolding view made
-  read i h = sym (record_read semaphore.kind layout even l i h)
+  read i h = record_read semaphore.kind layout even l i h
 
 -- The numbers vs in its columns from j on, at i.
 module _ (l m : List ℕ) (i j : ℕ) (vs : List ℕ) (h : Image l) where

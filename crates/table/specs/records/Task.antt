@@ -1,6 +1,6 @@
 -- A task's record in the image: what is read of it, and what numbers that are put into its columns change.
 use Rattle.std.specs.Prelude.{◌≡◌, refl, Bool, true, false, cond, eqb, List, ℕ, ◌≤◌, ◌<◌}
-use Rattle.std.proofs.Math.Path.{sym, ap}
+use Rattle.std.proofs.Math.Path.{ap}
 use Rattle.std.proofs.Common.{◌∙◌, inl, zero-add, arith}
 use Rattle.std.proofs.Math.Logic.{inr}
 use Rattle.columns.specs.Every.{every}
@@ -28,9 +28,9 @@ unfolding every
 even = refl
 
 module _ (l : List ℕ) where
-  pub read : (i : ℕ) → i < task_count → stored task.kind layout l i ≡ task_of (view l) i
+  pub read : (i : ℕ) → i < task_count → task_of (view l) i ≡ stored task.kind layout l i
   unfolding view made
-  read i h = sym (record_read task.kind layout even l i h)
+  read i h = record_read task.kind layout even l i h
 
 -- The numbers vs in its columns from j on, at i.
 module _ (l m : List ℕ) (i j : ℕ) (vs : List ℕ) (h : Image l) where

@@ -1,32 +1,38 @@
-use mathlib.Core.Bool.{true, false}
-use mathlib.Core.Path.{ap, ◌∙◌}
-use Prim.Native.Nat.{◌+◌}
-use native.Mathlib.Omega.{arith}
-use lib.ListN.{get_or}
-use Rattle.kinds.specs.Row.{body_short}
+use Rattle.std.proofs.Common.{rules, ◌≡◌, ◌∙◌, ◌+◌, ap, sym, arith, ℕ}
+use Rattle.std.specs.Prelude.{Err}
 use Rattle.rules.specs.Kinds.{widths}
 use Rattle.rules.specs.Tape.{sum, body_length}
-use Rattle.tape.specs.Next.{next_of, next_end, next_cut, next_whole}
+use Rattle.tape.specs.Next.{next_in, next_end, cut_next, read_next, next_call, next_none}
+use Rattle.tape.specs.declared.Stop.TheVariants.{NoKind}
 use Rattle.tape.proofs.read_call.Goals as goal
 
-pub overflow_add-n : goal.overflow_add-n
-overflow_add-n c =
-    omega (arith, body_short (get_or c.args.tape.now 0 0), c.body_length-n.ensures)
+pub returns-in_default : goal.returns-in_default
+returns-in_default c = next_end _ c.in_default.ensures.cases
 
-pub returns-then-tape-n : goal.returns-then-tape-n
-returns-then-tape-n c =
-    c.cut_call.ensures ∙ ap (λ r. next_of r true 0) c.reading_of.ensures
-    ∙ next_cut _ _ c.if-tape-eq0.false c.body_length-n.ensures c.if-tape-n.true
+pub returns-then-body-length : goal.returns-then-body-length
+returns-then-body-length c =
+    let some = c.in-Some in
+    let t = some.ensures.cases.0 in
+    cut_next some.field-0-0.now some.body.now (omega (arith, c.body_length-length.ensures, c.if-body-length.true)) ∙ ap next_in (sym t)
 
 pub numbers_in-requires : goal.numbers_in-requires
 unfolding body_length
 numbers_in-requires c =
-    omega (arith, ap (λ k. sum (widths k)) c.plain_kind.ensures, c.body_length-n.ensures, c.if-tape-n.false)
+    omega (arith, ap (λ (k : ℕ). sum (widths k)) c.plain_kind.ensures, c.body_length-length.ensures, c.if-body-length.false)
+
+pub returns-in_err-call : goal.returns-in_err-call
+returns-in_err-call c =
+    let some = c.in-Some in
+    let t = some.ensures.cases.0 in
+    let e : c.from_residual.result ≡ Err NoKind = search rules in
+    e ∙ next_none c.reading_of-reading.result (1 + c.body_length-length.result) c.in_err-call.ensures.ok_part
+    ∙ read_next some.field-0-0.now some.body.now _ c.plain_kind.ensures c.body_length-length.ensures c.if-body-length.false c.numbers_in.ensures c.reading_of-reading.ensures
+    ∙ ap next_in (sym t)
 
 pub returns : goal.returns
 returns c =
-    c.whole_call.ensures ∙ ap (λ r. next_of r false (1 + c.body_length-n.result)) c.reading_of-2.ensures
-    ∙ next_whole _ _ c.if-tape-eq0.false c.plain_kind.ensures c.body_length-n.ensures c.if-tape-n.false c.numbers_in.ensures
-
-pub returns-then-tape-eq0 : goal.returns-then-tape-eq0
-returns-then-tape-eq0 c = next_end _ c.if-tape-eq0.true
+    let some = c.in-Some in
+    let t = some.ensures.cases.0 in
+    next_call c.reading_of-reading.result (1 + c.body_length-length.result) c.in_ok-call.ensures.ok_part
+    ∙ read_next some.field-0-0.now some.body.now _ c.plain_kind.ensures c.body_length-length.ensures c.if-body-length.false c.numbers_in.ensures c.reading_of-reading.ensures
+    ∙ ap next_in (sym t)

@@ -1,21 +1,11 @@
-use native.Mathlib.Omega.{arith}
-use lib.ListN.{length-set}
-use native.Mathlib.Numerals.{add-one}
-use borrow.Author.Tests.{lt-ltb, le-ltb}
+use Rattle.std.proofs.Common.{lt-ltb, le-ltb}
 use Rattle.rules.specs.Tape.{decimal}
-use Rattle.tape.specs.Line.{wrote-bytes}
 use Rattle.tape.proofs.write_decimal.Goals as goal
 
 pub returns-then-n-lt10 : goal.returns-then-n-lt10
 unfolding decimal
-returns-then-n-lt10 c =
-    rw (lt-ltb _ _ c.if-n-lt10.true) (wrote-bytes _ _ _ (omega arith))
+returns-then-n-lt10 c = rw (lt-ltb _ _ c.if-n-lt10.true) c.write.ensures
 
-pub bounds-out-at-3 : goal.bounds-out-at-3
-bounds-out-at-3 c =
-    simp length-set (omega arith)
-
-pub returns : goal.returns
+pub returns-else-n-lt10 : goal.returns-else-n-lt10
 unfolding decimal
-returns c =
-    simp (le-ltb _ _ c.if-n-lt10.false, add-one) (wrote-bytes _ _ _ (omega arith))
+returns-else-n-lt10 c = rw (le-ltb _ _ c.if-n-lt10.false) c.write-else-n-lt10.ensures

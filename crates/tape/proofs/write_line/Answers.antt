@@ -5,9 +5,9 @@ use Rattle.tape.proofs.write_line.Goals as goal
 pub returns-then-room-lt6 : goal.returns-then-room-lt6
 unfolding line_in
 returns-then-room-lt6 c =
-    rw (← c.room.ensures, lt-leb _ _ c.if-room-lt6.true) (wrote_nothing _ _)
+    rw (← c.saturating_sub-room.ensures, lt-leb _ _ c.if-room-lt6.true) (wrote_nothing _ _)
 
 pub returns : goal.returns
 unfolding line_in
 returns c =
-    rw (← c.room.ensures, le-leb _ _ c.if-room-lt6.false) c.write_fitting.ensures
+    rw (← c.saturating_sub-room.ensures, le-leb _ _ c.if-room-lt6.false) c.write_fitting.ensures

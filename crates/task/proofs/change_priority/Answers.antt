@@ -1,33 +1,27 @@
-use mathlib.Core.Path.{refl}
-use native.Mathlib.Omega.{arith}
-use borrow.Author.Tests.{le-leb, lt-leb, lt-ltb, le-ltb, ne_eqb}
+use Rattle.std.proofs.Common.{refl, le-ltb, lt-ltb}
 use Rattle.rules.specs.Table.{task_of, with_base}
 use Rattle.rules.specs.Task.{priority_answer, change_priority}
 use Rattle.laws.specs.queues.Put.{put-stays, place_same}
 use Rattle.table.specs.Image.{view}
-use Rattle.service.specs.Serving.{refused, served}
+use Rattle.service.specs.Serving.{handed-on, refused, served}
 use Rattle.task.proofs.change_priority.Goals as goal
 
-pub returns-then-i-ge32 : goal.returns-then-i-ge32
+pub returns-in_err-i : goal.returns-in_err-i
 unfolding priority_answer
-returns-then-i-ge32 c =
-    refused (rw (le-leb _ _ c.if-i-ge32.true)) refl
+returns-in_err-i c =
+    handed-on c.in_err-i.field-0.0 c.from_residual.result c.from_residual.ensures.1 (c.in_err-i.ensures.answers _)
 
-pub returns-then-not-get_used : goal.returns-then-not-get_used
+pub returns-then-base-gt-LAST_PRIORITY : goal.returns-then-base-gt-LAST_PRIORITY
 unfolding priority_answer
-returns-then-not-get_used c =
-    refused (rw (lt-leb _ _ c.if-i-ge32.false, ← c.get_used.ensures, ne_eqb _ _ c.if-not-get_used.true)) refl
-
-pub returns-then-base-gt62 : goal.returns-then-base-gt62
-unfolding priority_answer
-returns-then-base-gt62 c =
-    refused (rw (lt-leb _ _ c.if-i-ge32.false, ← c.get_used.ensures, c.if-not-get_used.false, lt-ltb _ _ c.if-base-gt62.true)) refl
+returns-then-base-gt-LAST_PRIORITY c =
+    refused (rw (lt-ltb _ _ c.if-base-gt-LAST_PRIORITY.true) (c.in_ok-i.ensures.answers _)) refl
 
 pub returns : goal.returns
 unfolding priority_answer change_priority
 returns c =
-    let a = c.args in
-    let t = view a.s.now in
-    let k = task_of t a.i in
-    let stays = put-stays a.i (with_base a.base k) t (omega (arith, c.if-i-ge32.false)) (place_same (with_base a.base k) k refl refl refl refl) refl in
-    served (rw (lt-leb _ _ c.if-i-ge32.false, ← c.get_used.ensures, c.if-not-get_used.false, le-ltb _ _ c.if-base-gt62.false)) refl (cc stays)
+    let i = c.in_ok-i.i in
+    let t = view c.args.s.now in
+    let known = c.in_ok-i.ensures in
+    let k = task_of t i in
+    let stays = put-stays i (with_base c.args.base k) t known.within.1 (place_same (with_base c.args.base k) k refl refl refl refl) refl in
+    served (rw (le-ltb _ _ c.if-base-gt-LAST_PRIORITY.false) (known.answers _)) refl (rw (← known.within.0) (cc stays))

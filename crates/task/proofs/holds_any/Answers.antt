@@ -1,14 +1,11 @@
-use mathlib.Core.Path.{sym, ◌∙◌}
-use native.Mathlib.Omega.{arith}
-use native.Mathlib.Nat.{le_antisymm}
+use Rattle.std.proofs.Common.{sym, ◌∙◌}
 use Rattle.table.specs.Image.{view}
 use Rattle.task.proofs.Laws.{holds_none, holds_later, holds-found}
 use Rattle.task.proofs.holds_any.Goals as goal
 
 pub loop-m-init : goal.loop-m-init
 loop-m-init c =
-    let a = c.args in
-    (omega arith, holds_none a.i (view a.s.now))
+    holds_none c.args.i (view c.args.s.now)
 
 pub returns-then-v-i : goal.returns-then-v-i
 returns-then-v-i c =
@@ -18,8 +15,4 @@ returns-then-v-i c =
 pub loop-m-preserved : goal.loop-m-preserved
 loop-m-preserved c =
     let a = c.args in
-    (omega arith, holds_later a.i (view a.s.now) c.loop-m.m (λ z. c.if-v-i.false (c.get_holder-v.ensures ∙ z)) c.loop-m.invariant.1)
-
-pub returns : goal.returns
-returns c =
-    sym (rw (le_antisymm c.loop-m.invariant.0 c.loop-m-test.false) at c.loop-m.invariant.1)
+    holds_later a.i (view a.s.now) c.loop-m.m (λ z. c.if-v-i.false (c.get_holder-v.ensures ∙ z)) c.loop-m.invariant

@@ -11,4 +11,4 @@ returns c =
     let a = c.args in
     let t = view a.s.now in
     c.settle.ensures
-    ∙ settled-put a.i (with_suspend a.n (task_of t a.i)) t (omega arith) (view-shaped a.s.now c.requires.1).tasks _ c.set_suspend.ensures _ c.place_of-q.ensures refl
+    ∙ settled-put a.i (with_suspend a.n (task_of t a.i)) t (omega arith) (view-shaped a.s.now (omega arith)).tasks _ c.set_suspend.ensures _ c.place_of-q.ensures refl

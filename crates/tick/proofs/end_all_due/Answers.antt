@@ -1,4 +1,4 @@
-use Rattle.std.proofs.Common.{ℕ, sym, refl, ap, ◌∙◌, le_antisymm, arith}
+use Rattle.std.proofs.Common.{ℕ, sym, ap, ◌∙◌}
 use Rattle.rules.specs.Tick.{due_ended}
 use Rattle.table.specs.Image.{view}
 use Rattle.tick.specs.Marks.{some_at}
@@ -12,29 +12,9 @@ returns-then-not-any_at c =
 
 pub loop-i-init : goal.loop-i-init
 loop-i-init c =
-    (omega arith, refl, below_none _)
-
-pub end_due-requires : goal.end_due-requires
-end_due-requires c =
-    (c.loop-i-test.true, c.loop-i.invariant.1 ∙ c.requires)
-
-pub overflow_add-i : goal.overflow_add-i
-overflow_add-i c =
-    omega (arith, c.loop-i-test.true)
-
-pub loop-i-smaller : goal.loop-i-smaller
-loop-i-smaller c =
-    omega (arith, c.loop-i-test.true)
+    below_none _
 
 pub loop-i-preserved : goal.loop-i-preserved
 loop-i-preserved c =
     let i = c.loop-i.i in
-    (omega (arith, c.loop-i-test.true), c.s-1.given ∙ c.loop-i.invariant.1, c.end_due.ensures ∙ ap (due_ended i) c.loop-i.invariant.2 ∙ below_next i _)
-
-pub shape_of-s : goal.shape_of-s
-shape_of-s c =
-    c.loop-i.invariant.1
-
-pub returns : goal.returns
-returns c =
-    rw (le_antisymm c.loop-i.invariant.0 c.loop-i-test.false) at c.loop-i.invariant.2
+    c.end_due.ensures ∙ ap (due_ended i) c.loop-i.invariant ∙ below_next i _

@@ -8,12 +8,12 @@ returns-then-not-is_due c =
     let a = c.args in
     due_not a.i (view a.s.now) (sym c.is_due.ensures ∙ c.if-not-is_due.true)
 
-pub returns-then-get_state-eq1 : goal.returns-then-get_state-eq1
-returns-then-get_state-eq1 c =
+pub returns-then-get_state-eq-DELAYED : goal.returns-then-get_state-eq-DELAYED
+returns-then-get_state-eq-DELAYED c =
     let a = c.args in
-    c.end_wait.ensures ∙ due-delay a.i (view a.s.now) (sym c.is_due.ensures ∙ c.if-not-is_due.false) (sym c.get_state.ensures ∙ c.if-get_state-eq1.true)
+    c.end_wait.ensures ∙ due-delay a.i (view a.s.now) (sym c.is_due.ensures ∙ c.if-not-is_due.false) (sym c.get_state.ensures ∙ c.if-get_state-eq-DELAYED.true)
 
 pub returns : goal.returns
 returns c =
     let a = c.args in
-    c.end_wait-2.ensures ∙ due-wait a.i (view a.s.now) (sym c.is_due.ensures ∙ c.if-not-is_due.false) (λ z. c.if-get_state-eq1.false (c.get_state.ensures ∙ z))
+    c.end_wait-2.ensures ∙ due-wait a.i (view a.s.now) (sym c.is_due.ensures ∙ c.if-not-is_due.false) (λ z. c.if-get_state-eq-DELAYED.false (c.get_state.ensures ∙ z))

@@ -1,36 +1,29 @@
+use native.Mathlib.Omega.{arith}
 use Rattle.std.proofs.Common.{ℕ, ◌-◌, ap, ◌∙◌}
 use Rattle.table.specs.Image.{view}
 use Rattle.table.specs.Shape.{view-shaped}
 use Rattle.tick.proofs.Laws.{turned_none, turned_not, turned-over, turned_on}
 use Rattle.tick.proofs.turn.Goals as goal
 
-pub returns-then-i-ge32 : goal.returns-then-i-ge32
-returns-then-i-ge32 c =
+pub returns-then-i-ge-TASKS : goal.returns-then-i-ge-TASKS
+returns-then-i-ge-TASKS c =
     let l = c.args.s.now in
-    turned_none (view l) c.caller_of-i.ensures.0 (view-shaped l c.requires).tasks c.if-i-ge32.true
+    turned_none (view l) c.caller_of-i.ensures.0 (view-shaped l (omega arith)).tasks c.if-i-ge-TASKS.true
 
 pub returns-then-get_running-eq0 : goal.returns-then-get_running-eq0
 returns-then-get_running-eq0 c =
     let l = c.args.s.now in
-    turned_not (view l) c.caller_of-i.ensures.0 (view-shaped l c.requires).tasks c.if-i-ge32.false c.get_running.ensures c.if-get_running-eq0.true
-
-pub is_over-requires : goal.is_over-requires
-is_over-requires c =
-    c.s-1.given ∙ c.requires
-
-pub rotate_task-requires : goal.rotate_task-requires
-rotate_task-requires c =
-    c.s-1.given ∙ c.requires
+    turned_not (view l) c.caller_of-i.ensures.0 (view-shaped l (omega arith)).tasks c.if-i-ge-TASKS.false c.get_running.ensures c.if-get_running-eq0.true
 
 pub returns-then-is_over : goal.returns-then-is_over
 returns-then-is_over c =
     let l = c.args.s.now in
-    let less = c.one_less-left.ensures ∙ ap (λ (n : ℕ). n - 1) c.get_left.ensures in
+    let less = c.saturating_sub-left.ensures ∙ ap (λ (n : ℕ). n - 1) c.get_left.ensures in
     c.rotate_task.ensures
-    ∙ turned-over (view l) c.caller_of-i.ensures.0 (view-shaped l c.requires).tasks c.if-i-ge32.false c.get_running.ensures less c.set_left.ensures c.is_over.ensures c.if-get_running-eq0.false c.if-is_over.true
+    ∙ turned-over (view l) c.caller_of-i.ensures.0 (view-shaped l (omega arith)).tasks c.if-i-ge-TASKS.false c.get_running.ensures less c.set_left.ensures c.is_over.ensures c.if-get_running-eq0.false c.if-is_over.true
 
 pub returns-else-is_over : goal.returns-else-is_over
 returns-else-is_over c =
     let l = c.args.s.now in
-    let less = c.one_less-left.ensures ∙ ap (λ (n : ℕ). n - 1) c.get_left.ensures in
-    turned_on (view l) c.caller_of-i.ensures.0 (view-shaped l c.requires).tasks c.if-i-ge32.false c.get_running.ensures less c.set_left.ensures c.is_over.ensures c.if-get_running-eq0.false c.if-is_over.false
+    let less = c.saturating_sub-left.ensures ∙ ap (λ (n : ℕ). n - 1) c.get_left.ensures in
+    turned_on (view l) c.caller_of-i.ensures.0 (view-shaped l (omega arith)).tasks c.if-i-ge-TASKS.false c.get_running.ensures less c.set_left.ensures c.is_over.ensures c.if-get_running-eq0.false c.if-is_over.false

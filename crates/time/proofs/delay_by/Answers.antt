@@ -13,12 +13,12 @@ unfolding delay_answer
 returns-then-n-eq0 c =
     refused (rw (← c.get_running.ensures, ne_eqb _ _ c.if-get_running-eq0.false, eq-eqb _ _ c.if-n-eq0.true)) refl
 
-pub returns-then-not-get_depth : goal.returns-then-not-get_depth
+pub returns-then-get_depth-ne0 : goal.returns-then-get_depth-ne0
 unfolding delay_answer
-returns-then-not-get_depth c =
-    refused (rw (← c.get_running.ensures, ne_eqb _ _ c.if-get_running-eq0.false, ne_eqb _ _ c.if-n-eq0.false, ← c.get_depth.ensures, ne_eqb _ _ c.if-not-get_depth.true)) refl
+returns-then-get_depth-ne0 c =
+    refused (rw (← c.get_running.ensures, ne_eqb _ _ c.if-get_running-eq0.false, ne_eqb _ _ c.if-n-eq0.false, ← c.get_depth.ensures, ne_eqb _ _ c.if-get_depth-ne0.true)) refl
 
 pub returns : goal.returns
 unfolding delay_answer delay
 returns c =
-    served (rw (← c.get_running.ensures, ne_eqb _ _ c.if-get_running-eq0.false, ne_eqb _ _ c.if-n-eq0.false, ← c.get_depth.ensures, c.if-not-get_depth.false)) refl (cc)
+    served (rw (← c.get_running.ensures, ne_eqb _ _ c.if-get_running-eq0.false, ne_eqb _ _ c.if-n-eq0.false, ← c.get_depth.ensures, c.if-get_depth-ne0.false)) refl (cc)

@@ -1,25 +1,21 @@
-use Rattle.std.proofs.Common.{refl, le-leb}
-use borrow.Author.Tests.{lt-leb, ne_eqb}
+use Rattle.std.proofs.Common.{refl, ne_eqb}
 use Rattle.rules.specs.Time.{delay_resume_answer, delay_resume}
-use Rattle.service.specs.Serving.{refused, served}
+use Rattle.service.specs.Serving.{handed-on, refused, served}
 use Rattle.time.proofs.delay_resume.Goals as goal
 
-pub returns-then-i-ge32 : goal.returns-then-i-ge32
+pub returns-in_err-i : goal.returns-in_err-i
 unfolding delay_resume_answer
-returns-then-i-ge32 c =
-    refused (rw (le-leb _ _ c.if-i-ge32.true)) refl
+returns-in_err-i c =
+    handed-on c.in_err-i.field-0.0 c.from_residual.result c.from_residual.ensures.1 (c.in_err-i.ensures.answers _)
 
-pub returns-then-not-get_used : goal.returns-then-not-get_used
+pub returns-then-get_state-ne-DELAYED : goal.returns-then-get_state-ne-DELAYED
 unfolding delay_resume_answer
-returns-then-not-get_used c =
-    refused (rw (lt-leb _ _ c.if-i-ge32.false, ← c.get_used.ensures, ne_eqb _ _ c.if-not-get_used.true)) refl
-
-pub returns-then-not-get_state : goal.returns-then-not-get_state
-unfolding delay_resume_answer
-returns-then-not-get_state c =
-    refused (rw (lt-leb _ _ c.if-i-ge32.false, ← c.get_used.ensures, c.if-not-get_used.false, ← c.get_state.ensures, ne_eqb _ _ c.if-not-get_state.true)) refl
+returns-then-get_state-ne-DELAYED c =
+    let i = c.in_ok-i.ensures in
+    refused (rw (← rw i.within.0 at c.get_state.ensures, ne_eqb _ _ c.if-get_state-ne-DELAYED.true) (i.answers _)) refl
 
 pub returns : goal.returns
 unfolding delay_resume_answer delay_resume
 returns c =
-    served (rw (lt-leb _ _ c.if-i-ge32.false, ← c.get_used.ensures, c.if-not-get_used.false, ← c.get_state.ensures, c.if-not-get_state.false)) refl (cc)
+    let i = c.in_ok-i.ensures in
+    served (rw (← rw i.within.0 at c.get_state.ensures, c.if-get_state-ne-DELAYED.false) (i.answers _)) refl (cc i.within.0)

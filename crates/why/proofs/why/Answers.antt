@@ -1,53 +1,50 @@
-use mathlib.Core.Path.{sym, ap, ◌∙◌}
-use Prim.Native.Nat.{ℕ, ◌≤◌, ◌<◌}
-use native.Mathlib.Omega.{arith}
+use Rattle.std.proofs.Common.{◌≡◌, ℕ, refl, sym, ap, ◌∙◌, arith}
 use Rattle.table.specs.Image.{view}
-use Rattle.why.specs.Tests.{rule_end, record_end, first_at, reason}
-use Rattle.why.specs.Least.{end_most, why_start, why_next, why_stop, why_end}
-use borrow.Author.Rules.{rules}
+use Rattle.table.specs.Shape.{view-shaped}
+use Rattle.why.specs.Tests.{rule_end, why_of, reason}
+use Rattle.why.specs.Least.{end_most, why_start, why_next, why_stop, why_end, found_some, found_none}
+use Rattle.why.specs.Explained.{none_sound, some_unsound}
 use Rattle.why.proofs.why.Goals as goal
 
 pub loop-rule-init : goal.loop-rule-init
 loop-rule-init c =
-    (omega arith, why_start _)
-
-pub first_at-i-requires : goal.first_at-i-requires
-first_at-i-requires c =
-    search rules
-
-pub record_end-requires : goal.record_end-requires
-record_end-requires c =
-    search rules
+    why_start _
 
 pub overflow_cast-result : goal.overflow_cast-result
 overflow_cast-result c =
-    omega (arith, c.record_end.ensures, end_most c.loop-rule.rule)
+    omega (arith, (found_some c.loop-rule.rule (view c.args.s.now) (sym c.first_at.ensures ∙ c.in-Some.is)).0, end_most c.loop-rule.rule)
 
-pub returns-then-i-record_end : goal.returns-then-i-record_end
-returns-then-i-record_end c =
+-- Where a record breaks the rule, it is the reason.
+reason_is : (c : goal.In-Some) → why_of (view c.args.s.now) ≡ reason c.loop-rule.rule c.in-Some.i
+reason_is c =
     let l = c.loop-rule in
-    let a = c.args in
-    let t = view a.s.now in
-    let h : first_at l.rule t < record_end l.rule = omega (arith, c.record_end.ensures, c.first_at-i.ensures, c.if-i-record_end.true) in
-    sym (l.invariant.1 ∙ why_stop t rule_end l.rule (omega arith) h ∙ ap (λ (i : ℕ). reason l.rule i) (sym c.first_at-i.ensures))
+    let t = view c.args.s.now in
+    let (h, e) = found_some l.rule t (sym c.first_at.ensures ∙ c.in-Some.is) in
+    l.invariant ∙ why_stop t rule_end l.rule (omega arith) (omega arith) ∙ ap (λ (i : ℕ). reason l.rule i) e
 
-pub overflow_add-rule : goal.overflow_add-rule
-overflow_add-rule c =
-    omega arith
+pub returns-in-Some-clause-reason : goal.returns-in-Some-clause-reason
+returns-in-Some-clause-reason c =
+    sym (reason_is c)
 
-pub loop-rule-smaller : goal.loop-rule-smaller
-loop-rule-smaller c =
-    omega arith
+pub returns-in-Some-clause-none : goal.returns-in-Some-clause-none
+returns-in-Some-clause-none c =
+    ((λ e. absurd (cc)), λ s. absurd (some_unsound (view-shaped c.args.s.now (omega arith)) (reason_is c) (sym c.first_at.ensures ∙ c.in-Some.is) s))
 
 pub loop-rule-preserved : goal.loop-rule-preserved
 loop-rule-preserved c =
     let l = c.loop-rule in
-    let a = c.args in
-    let t = view a.s.now in
-    let h : record_end l.rule ≤ first_at l.rule t = omega (arith, c.record_end.ensures, c.first_at-i.ensures, c.if-i-record_end.false) in
-    (omega arith, l.invariant.1 ∙ why_next t rule_end l.rule (omega arith) h)
+    let t = view c.args.s.now in
+    l.invariant ∙ why_next t rule_end l.rule (omega arith) (found_none l.rule t (sym c.first_at.ensures ∙ c.in_default.is))
 
-pub returns : goal.returns
-returns c =
-    let l = c.loop-rule in
-    sym (l.invariant.1 ∙ why_end (view c.args.s.now) rule_end l.rule (omega arith))
+-- Where none does, there is no reason.
+none_is : (c : goal.After-loop-rule) → why_of (view c.args.s.now) ≡ reason 0 0
+none_is c =
+    let l = c.loop-rule in l.invariant ∙ why_end (view c.args.s.now) rule_end l.rule (omega arith)
+
+pub returns-clause-reason : goal.returns-clause-reason
+returns-clause-reason c =
+    sym (none_is c)
+
+pub returns-clause-none : goal.returns-clause-none
+returns-clause-none c =
+    ((λ e. none_sound (view-shaped c.args.s.now (omega arith)) (none_is c)), λ s. refl)

@@ -11,10 +11,10 @@ returns-then-left-eq0 t c =
     let a = c.args in
     sym (cheap_on_none 32 next work_of (λ t s. min (work_of t s) a.p) put_work a.left a.i (view a.s.now) c.if-left-eq0.true)
 
-pub returns-then-i-ge32 : goal.returns-then-i-ge32
-returns-then-i-ge32 t c =
+pub returns-then-i-ge-TASKS : goal.returns-then-i-ge-TASKS
+returns-then-i-ge-TASKS t c =
     let a = c.args in
-    sym (cheap_on_past 32 next work_of (λ t s. min (work_of t s) a.p) put_work a.left a.i (view a.s.now) c.if-i-ge32.true)
+    sym (cheap_on_past 32 next work_of (λ t s. min (work_of t s) a.p) put_work a.left a.i (view a.s.now) c.if-i-ge-TASKS.true)
 
 pub returns-then-get_work-p : goal.returns-then-get_work-p
 returns-then-get_work-p t c =
@@ -26,4 +26,4 @@ returns t c =
     let a = c.args in
     c.raise_on.ensures
     ∙ rw (c.rework_task.ensures, c.next_of-further.ensures)
-    (sym (rise_on_turn 32 next work_of put_work a.p a.left a.i (view a.s.now) c.if-left-eq0.false c.if-i-ge32.false (rw c.get_work.ensures at c.if-get_work-p.false)))
+    (sym (rise_on_turn 32 next work_of put_work a.p a.left a.i (view a.s.now) c.if-left-eq0.false c.if-i-ge-TASKS.false (rw c.get_work.ensures at c.if-get_work-p.false)))

@@ -18,10 +18,10 @@ returns-then-v-eq0 c =
     let a = c.args in
     sym (no_waiter (view a.s.now) a.i a.m a.best (sym c.first_in-v.ensures ∙ c.if-v-eq0.true))
 
-pub returns-then-v-gt32 : goal.returns-then-v-gt32
-returns-then-v-gt32 c =
+pub returns-then-v-gt-TASKS : goal.returns-then-v-gt-TASKS
+returns-then-v-gt-TASKS c =
     let a = c.args in
-    sym (beyond (view a.s.now) a.i a.m a.best (rw c.first_in-v.ensures at c.if-v-gt32.true))
+    sym (beyond (view a.s.now) a.i a.m a.best (rw c.first_in-v.ensures at c.if-v-gt-TASKS.true))
 
 pub returns-then-w-best : goal.returns-then-w-best
 returns-then-w-best c =
@@ -31,7 +31,7 @@ returns-then-w-best c =
     let own : (mutex_of t a.m).holder ≡ written a.i = sym c.get_holder.ensures ∙ omega (arith, c.if-get_holder-i.false) in
     let some : first_in (mutex_queue a.m) t ≢ 0 = λ z. c.if-v-eq0.false (e ∙ z) in
     sym
-    (first_counts t a.i a.m a.best own some (omega (arith, e, c.if-v-gt32.false))
+    (first_counts t a.i a.m a.best own some (omega (arith, e, c.if-v-gt-TASKS.false))
     ∙ omega (arith, c.if-w-best.true, c.get_work-w.ensures, ap (λ (v : ℕ). work_of t (v - 1)) e))
 
 pub returns : goal.returns
@@ -42,5 +42,5 @@ returns c =
     let own : (mutex_of t a.m).holder ≡ written a.i = sym c.get_holder.ensures ∙ omega (arith, c.if-get_holder-i.false) in
     let some : first_in (mutex_queue a.m) t ≢ 0 = λ z. c.if-v-eq0.false (e ∙ z) in
     sym
-    (first_counts t a.i a.m a.best own some (omega (arith, e, c.if-v-gt32.false))
+    (first_counts t a.i a.m a.best own some (omega (arith, e, c.if-v-gt-TASKS.false))
     ∙ omega (arith, c.if-w-best.false, c.get_work-w.ensures, ap (λ (v : ℕ). work_of t (v - 1)) e))

@@ -1,38 +1,35 @@
-use mathlib.Core.Path.{refl, sym, ap, ◌∙◌}
-use Prim.Native.Nat.{ℕ, ◌-◌}
-use native.Mathlib.Omega.{arith}
+use Rattle.std.proofs.Common.{ℕ, ◌≡◌, ◌+◌, ◌-◌, sym, ap, ◌∙◌, arith}
 use Rattle.rules.specs.Chain.{leads}
 use Rattle.rules.specs.Move.{next}
 use Rattle.table.specs.Image.{view}
 use Rattle.chain.specs.Rings.{leads_none, leads_here, leads_past, leads_on}
 use Rattle.chain.proofs.rings.leads_to.Goals as goal
 
-pub loop-left-init : goal.loop-left-init
-loop-left-init c =
-    refl
-
 pub returns-then-at-c : goal.returns-then-at-c
 returns-then-at-c c =
     let a = c.args in
-    let l = c.loop-left in
-    sym (l.invariant ∙ leads_here 32 (next (view a.s.now)) a.c l.left l.at (λ z. omega (arith, c.loop-left-test.true)) c.if-at-c.true)
+    let l = c.loop in
+    sym (l.invariant ∙ leads_here 32 (next (view a.s.now)) a.c (32 - l.counter) l.at (λ z. omega (arith, z, c.loop-test.true)) c.if-at-c.true)
 
-pub returns-then-at-ge32 : goal.returns-then-at-ge32
-returns-then-at-ge32 c =
+pub returns-then-at-ge-TASKS : goal.returns-then-at-ge-TASKS
+returns-then-at-ge-TASKS c =
     let a = c.args in
-    let l = c.loop-left in
-    sym (l.invariant ∙ leads_past 32 (next (view a.s.now)) a.c l.left l.at c.if-at-c.false c.if-at-ge32.true)
+    let l = c.loop in
+    sym (l.invariant ∙ leads_past 32 (next (view a.s.now)) a.c (32 - l.counter) l.at c.if-at-c.false c.if-at-ge-TASKS.true)
 
-pub loop-left-preserved : goal.loop-left-preserved
-loop-left-preserved c =
+pub loop-preserved : goal.loop-preserved
+loop-preserved c =
     let a = c.args in
-    let l = c.loop-left in
+    let l = c.loop in
+    let n = next (view a.s.now) in
+    let less : 32 - l.counter - 1 ≡ 32 - (l.counter + 1) = omega arith in
     l.invariant
-    ∙ leads_on 32 (next (view a.s.now)) a.c l.left l.at (λ z. omega (arith, c.loop-left-test.true)) c.if-at-c.false c.if-at-ge32.false
-    ∙ ap (λ (j : ℕ). leads 32 (next (view a.s.now)) (l.left - 1) j a.c) (sym c.next_of-at.ensures)
+    ∙ leads_on 32 n a.c (32 - l.counter) l.at (λ z. omega (arith, z, c.loop-test.true)) c.if-at-c.false c.if-at-ge-TASKS.false
+    ∙ ap (λ (k : ℕ). leads 32 n k (n l.at) a.c) less
+    ∙ ap (λ (j : ℕ). leads 32 n (32 - (l.counter + 1)) j a.c) (sym c.next_of-at.ensures)
 
 pub returns : goal.returns
 returns c =
     let a = c.args in
-    let l = c.loop-left in
-    sym (l.invariant ∙ leads_none 32 (next (view a.s.now)) a.c l.left l.at (omega (arith, c.loop-left-test.false)))
+    let l = c.loop in
+    sym (l.invariant ∙ leads_none 32 (next (view a.s.now)) a.c (32 - l.counter) l.at (omega (arith, c.loop-test.false)))

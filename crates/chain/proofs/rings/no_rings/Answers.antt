@@ -1,9 +1,7 @@
-use mathlib.Core.Path.{◌≡◌, sym, ap, ◌∙◌}
-use native.Mathlib.Omega.{arith}
+use mathlib.Core.Path.{sym, ◌∙◌}
 use borrow.Author.Tests.{leb-true, leb-false}
 use Rattle.rules.specs.Chain.{after}
 use Rattle.rules.specs.Move.{next}
-use Rattle.laws.specs.local.Local.{ringless}
 use Rattle.laws.specs.local.Walk.{most}
 use Rattle.table.specs.Image.{view}
 use Rattle.chain.specs.Rings.{ringless_none, ringless_next, ringless-fails}
@@ -11,7 +9,7 @@ use Rattle.chain.proofs.rings.no_rings.Goals as goal
 
 pub loop-j-init : goal.loop-j-init
 loop-j-init c =
-    (omega arith, ringless_none 32 (next (view c.args.s.now)) most)
+    ringless_none 32 (next (view c.args.s.now)) most
 
 pub returns-then-not-runs_out : goal.returns-then-not-runs_out
 returns-then-not-runs_out c =
@@ -25,11 +23,4 @@ loop-j-preserved c =
     let n = next (view c.args.s.now) in
     let l = c.loop-j in
     let out = leb-true 32 (after n most l.j) (sym c.runs_out.ensures ∙ c.if-not-runs_out.false) in
-    (omega (arith, c.loop-j-test.true), ringless_next 32 n most l.j out l.invariant.1)
-
-pub returns : goal.returns
-returns c =
-    let n = next (view c.args.s.now) in
-    let l = c.loop-j in
-    let e : l.j ≡ 32 = omega (arith, l.invariant.0, c.loop-j-test.false) in
-    sym (ap (ringless 32 n most) (sym e) ∙ l.invariant.1)
+    ringless_next 32 n most l.j out l.invariant

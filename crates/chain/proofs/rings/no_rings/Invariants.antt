@@ -1,6 +1,4 @@
-use mathlib.Core.Path.{◌≡◌}
-use mathlib.Core.Bool.{true}
-use Prim.Native.Nat.{◌-◌, ◌≤◌}
+use Rattle.std.proofs.Common.{◌≡◌, true}
 use Rattle.rules.specs.Move.{next}
 use Rattle.laws.specs.local.Local.{ringless}
 use Rattle.laws.specs.local.Walk.{most}
@@ -8,7 +6,4 @@ use Rattle.table.specs.Image.{view}
 use Rattle.chain.proofs.rings.no_rings.Given as goal
 
 abbrev pub invariant-loop-j : goal.invariant-loop-j
-invariant-loop-j l = (l.j ≤ 32) × (ringless 32 (next (view l.s)) most l.j ≡ true)
-
-abbrev pub decreases-loop-j : goal.decreases-loop-j
-decreases-loop-j l = 32 - l.j
+invariant-loop-j l = ringless 32 (next (view l.s)) most l.j ≡ true

@@ -1,4 +1,3 @@
-use borrow.Author.Rules.{rules}
 use mathlib.Core.Path.{sym, ◌∙◌}
 use native.Mathlib.Omega.{arith}
 use Rattle.rules.specs.Move.{next, fresh_in, put_work}
@@ -13,16 +12,16 @@ returns-then-n-eq0 t c =
     let w = c.pass_right-stand in
     sym (w.ensures.1 ∙ walk_on_none 32 next fresh_in put_work w.result.left w.result.task (view a.s.now) c.if-n-eq0.true)
 
-pub returns-then-at-ge32 : goal.returns-then-at-ge32
-returns-then-at-ge32 t c =
+pub returns-then-at-ge-TASKS : goal.returns-then-at-ge-TASKS
+returns-then-at-ge-TASKS t c =
     let a = c.args in
     let w = c.pass_right-stand in
-    sym (w.ensures.1 ∙ walk_on_past 32 next fresh_in put_work w.result.left w.result.task (view a.s.now) c.if-at-ge32.true)
+    sym (w.ensures.1 ∙ walk_on_past 32 next fresh_in put_work w.result.left w.result.task (view a.s.now) c.if-at-ge-TASKS.true)
 
 pub walk_on-requires : goal.walk_on-requires
 walk_on-requires t c =
     let w = c.pass_right-stand in
-    (omega (arith, w.ensures.0, c.decreases), (search rules, rw c.rework_task.ensures (given-work w.result.task _ (omega arith) c.requires.1)))
+    (omega (arith, w.ensures.0, c.decreases), rw c.rework_task.ensures (given-work w.result.task _ (omega arith) c.requires))
 
 pub returns : goal.returns
 returns t c =
@@ -30,4 +29,4 @@ returns t c =
     let w = c.pass_right-stand in
     c.walk_on.ensures
     ∙ rw (c.rework_task.ensures, c.next_of-further.ensures, c.fresh_of-p.ensures)
-    (sym (w.ensures.1 ∙ walk_on_turn 32 next fresh_in put_work w.result.left w.result.task (view a.s.now) c.if-n-eq0.false c.if-at-ge32.false))
+    (sym (w.ensures.1 ∙ walk_on_turn 32 next fresh_in put_work w.result.left w.result.task (view a.s.now) c.if-n-eq0.false c.if-at-ge-TASKS.false))

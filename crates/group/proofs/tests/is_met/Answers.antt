@@ -1,12 +1,12 @@
 use Rattle.rules.specs.Group.{is_met}
 use Rattle.group.proofs.tests.is_met.Goals as goal
 
-pub returns-then-test : goal.returns-then-test
+pub returns-then-asked : goal.returns-then-asked
 unfolding is_met
-returns-then-test c =
-    rw (c.if-test.true, c.meeting-right.ensures)
+returns-then-asked c =
+    rw (c.if-asked.true, c.meeting-right.ensures)
 
 pub returns : goal.returns
 unfolding is_met
 returns c =
-    rw (c.if-test.false, c.meeting-right.ensures)
+    rw (c.if-asked.false, c.meeting-right.ensures)

@@ -2,12 +2,12 @@ use borrow.Author.Tests.{lt-ltb, le-ltb}
 use Rattle.rules.specs.Group.{meeting}
 use Rattle.group.proofs.tests.meeting.Goals as goal
 
-pub returns-then-test-lt2 : goal.returns-then-test-lt2
+pub returns-then-asked-lt-ALL_CLEAR : goal.returns-then-asked-lt-ALL_CLEAR
 unfolding meeting
-returns-then-test-lt2 c =
-    rw (lt-ltb _ _ c.if-test-lt2.true)
+returns-then-asked-lt-ALL_CLEAR c =
+    rw (lt-ltb _ _ c.if-asked-lt-ALL_CLEAR.true)
 
 pub returns : goal.returns
 unfolding meeting
 returns c =
-    rw (le-ltb _ _ c.if-test-lt2.false)
+    rw (le-ltb _ _ c.if-asked-lt-ALL_CLEAR.false)

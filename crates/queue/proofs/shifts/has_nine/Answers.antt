@@ -1,16 +1,17 @@
-use mathlib.Core.Path.{◌∙◌}
+use mathlib.Core.Path.{refl}
 use native.Mathlib.Omega.{arith}
-use Rattle.queue.specs.Packed.{packed_enough, packed-short}
+use Rattle.queue.specs.Packed.{packed-short}
+use Rattle.queue.proofs.Nines.{nine-packed, part_size}
 use Rattle.queue.proofs.shifts.has_nine.Goals as goal
 
 pub returns-then-ids-j : goal.returns-then-ids-j
 returns-then-ids-j c =
-    packed-short _ _ _ (omega arith)
+    packed-short 9 _ _ (omega arith)
 
-pub returns-then-ids-j-lt9 : goal.returns-then-ids-j-lt9
-returns-then-ids-j-lt9 c =
-    packed-short _ _ _ (omega arith)
+pub returns-in_default : goal.returns-in_default
+returns-in_default c =
+    packed-short 9 _ _ (omega (arith, part_size c.args.j c.args.ids.now))
 
 pub returns : goal.returns
 returns c =
-    c.are_nine_packed.ensures ∙ packed_enough _ _ _ (omega arith)
+    nine-packed c.args.j _ _ refl (omega (arith, part_size c.args.j c.args.ids.now, c.in-len9-up.len_at_least))

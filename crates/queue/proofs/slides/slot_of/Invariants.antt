@@ -1,11 +1,6 @@
-use Prim.Native.Nat.{◌≤◌, ◌-◌}
-use lib.ListN.{length}
 use Rattle.queue.specs.Slots.{same}
 use Rattle.queue.proofs.Scan.{Scanned}
 use Rattle.queue.proofs.slides.slot_of.Given as goal
 
 abbrev pub invariant-loop-i : goal.invariant-loop-i
-invariant-loop-i l = (l.i ≤ length l.ids) × Scanned (same l.v) l.ids l.i
-
-abbrev pub decreases-loop-i : goal.decreases-loop-i
-decreases-loop-i l = length l.ids - l.i
+invariant-loop-i l = Scanned (same l.v) l.ids l.i

@@ -18,8 +18,8 @@ returns c =
     let t = view a.s.now in
     let k = task_of t a.i in
     let l : a.i < task_count = omega arith in
-    let size = (view-shaped a.s.now c.requires.1).tasks in
-    let away = c.requires.2 in
+    let size = (view-shaped a.s.now (omega arith)).tasks in
+    let away = c.requires.1 in
     let stored = c.set_outcome.ensures
     ∙ then_stored a.i t l size (with_outcome a.outcome) (with_state plain 0 k) _ c.set_state.ensures
     ∙ ap (λ (x : Task). with_task a.i x t) (away-ready a.outcome k away) in

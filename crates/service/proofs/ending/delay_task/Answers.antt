@@ -10,10 +10,10 @@ use Rattle.table.specs.Settled.{then_stored, left_put}
 use Rattle.service.specs.Places.{delayed-nowhere}
 use Rattle.service.proofs.ending.delay_task.Goals as goal
 
-pub returns-then-i-ge32 : goal.returns-then-i-ge32
-returns-then-i-ge32 c =
+pub returns-then-i-ge-TASKS : goal.returns-then-i-ge-TASKS
+returns-then-i-ge-TASKS c =
     let a = c.args in
-    sym (put_out a.i _ (view a.s.now) c.if-i-ge32.true)
+    sym (put_out a.i _ (view a.s.now) c.if-i-ge-TASKS.true)
 
 pub returns : goal.returns
 returns c =
@@ -21,7 +21,7 @@ returns c =
     let t = view a.s.now in
     let k = task_of t a.i in
     let l : a.i < task_count = omega arith in
-    let size = (view-shaped a.s.now c.requires).tasks in
+    let size = (view-shaped a.s.now (omega arith)).tasks in
     let stored = c.set_mark.ensures ∙ then_stored a.i t l size (with_mark a.marked a.due) (with_state delayed 0 k) _ c.set_state.ensures in
     c.leave_queue.ensures
     ∙ left_put a.i (with_state delayed 0 (with_mark a.marked a.due k)) t l _ stored _ c.place_of-q.ensures refl (delayed-nowhere _ refl)

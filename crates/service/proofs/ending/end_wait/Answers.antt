@@ -6,19 +6,18 @@ use Rattle.rules.specs.Move.{walk}
 use Rattle.table.specs.Image.{view}
 use Rattle.table.specs.Shape.{view-shaped}
 use Rattle.service.proofs.Endings.{ended_none, ended_is, settled-away}
-use borrow.Author.Rules.{rules}
 use Rattle.service.proofs.ending.end_wait.Goals as goal
 
-pub returns-then-i-ge32 : goal.returns-then-i-ge32
-returns-then-i-ge32 c =
-    sym (ended_none c.args.outcome c.args.i (view c.args.s.now) c.if-i-ge32.true (view-shaped c.args.s.now c.requires).tasks)
+pub returns-then-i-ge-TASKS : goal.returns-then-i-ge-TASKS
+returns-then-i-ge-TASKS c =
+    sym (ended_none c.args.outcome c.args.i (view c.args.s.now) c.if-i-ge-TASKS.true (view-shaped c.args.s.now (omega arith)).tasks)
 
 pub come_back-requires : goal.come_back-requires
 come_back-requires c =
     let l : c.args.i < task_count = omega arith in
     let left = view c.delay_task.new.s in
     let moved = c.walk_from.ensures ∙ ap (λ (n : ℕ). walk n left) c.next_of-holder.ensures in
-    (l, search rules, settled-away c.args.i (view c.args.s.now) left _ l (view-shaped c.args.s.now c.requires).tasks c.delay_task.ensures moved)
+    (l, settled-away c.args.i (view c.args.s.now) left _ l (view-shaped c.args.s.now (omega arith)).tasks c.delay_task.ensures moved)
 
 pub returns : goal.returns
 returns c =

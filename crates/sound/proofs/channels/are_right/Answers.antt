@@ -19,9 +19,9 @@ told l small e = ap (λ (b : Bool). b && each channel_count (is_row_sound (view 
 
 pub returns-then-not-are_rooms_right : goal.returns-then-not-are_rooms_right
 returns-then-not-are_rooms_right c =
-    told c.args.s.now (λ n. omega (arith, c.shared_slice_known-1.given n)) (sym c.if-not-are_rooms_right.true ∙ c.are_rooms_right.ensures)
+    told c.args.s.now c.fits-s (sym c.if-not-are_rooms_right.true ∙ c.are_rooms_right.ensures)
 
 pub returns : goal.returns
 returns c =
     c.are_rows_right.ensures
-    ∙ told c.args.s.now (λ n. omega (arith, c.shared_slice_known-1.given n)) (sym c.if-not-are_rooms_right.false ∙ c.are_rooms_right.ensures)
+    ∙ told c.args.s.now c.fits-s (sym c.if-not-are_rooms_right.false ∙ c.are_rooms_right.ensures)

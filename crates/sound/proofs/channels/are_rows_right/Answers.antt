@@ -1,4 +1,4 @@
-use mathlib.Core.Path.{◌≡◌, sym, ◌∙◌}
+use mathlib.Core.Path.{sym, ◌∙◌}
 use native.Mathlib.Omega.{arith}
 use Rattle.rules.specs.Sizes.{channel_count}
 use Rattle.table.specs.Image.{view}
@@ -8,7 +8,7 @@ use Rattle.sound.proofs.channels.are_rows_right.Goals as goal
 
 pub loop-c-init : goal.loop-c-init
 loop-c-init c =
-    (omega arith, sym (each_none _))
+    sym (each_none _)
 
 pub returns-then-not-is_row_right : goal.returns-then-not-is_row_right
 returns-then-not-is_row_right c =
@@ -16,8 +16,4 @@ returns-then-not-is_row_right c =
 
 pub loop-c-preserved : goal.loop-c-preserved
 loop-c-preserved c =
-    (omega arith, each_more (is_row_sound (view c.args.s.now)) c.loop-c.c c.loop-c.invariant.1 (sym c.is_row_right.ensures ∙ c.if-not-is_row_right.false))
-
-pub returns : goal.returns
-returns c =
-    let e : c.loop-c.c ≡ channel_count = omega arith in sym (rw e at c.loop-c.invariant.1)
+    each_more (is_row_sound (view c.args.s.now)) c.loop-c.c c.loop-c.invariant (sym c.is_row_right.ensures ∙ c.if-not-is_row_right.false)

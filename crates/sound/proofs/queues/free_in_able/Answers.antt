@@ -1,14 +1,9 @@
-use native.Mathlib.Nat.{zero-add}
 use native.Mathlib.Omega.{arith}
 use Rattle.rules.specs.Table.{queue_of, able_queue}
 use Rattle.table.specs.Image.{view}
 use Rattle.table.specs.Queues.{view-slots}
 use Rattle.sound.proofs.Turns.{free_at, free_end}
 use Rattle.sound.proofs.queues.free_in_able.Goals as goal
-
-pub loop-j-init : goal.loop-j-init
-loop-j-init c =
-    (omega arith, omega arith, zero-add _)
 
 pub loop-j-preserved : goal.loop-j-preserved
 loop-j-preserved c =

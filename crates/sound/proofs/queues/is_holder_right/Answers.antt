@@ -22,4 +22,4 @@ returns c =
     let a = c.args in
     let t = view a.s.now in
     let n : (mutex_of t a.m).holder ≡ 0 → ⊥ = λ z. c.if-h-eq0.false (c.get_holder-h.ensures ∙ z) in
-    cc (held-within t a.m n, c.requires.2.at (c.get_holder-h.result - 1) (omega arith))
+    cc (held-within t a.m n, c.requires.1.at (c.get_holder-h.result - 1) (omega arith))

@@ -7,4 +7,4 @@ use Rattle.sound.proofs.ready.is_word_right.Goals as goal
 
 pub returns : goal.returns
 returns c =
-    ap (λ (x : ℕ). eqb c.levels_along.result x) c.get_ready.ensures ∙ along_right (view c.args.s.now) c.requires.1 c.levels_along.ensures
+    ap (λ (x : ℕ). eqb c.levels_along.result x) c.get_ready.ensures ∙ along_right (view c.args.s.now) c.requires c.levels_along.ensures

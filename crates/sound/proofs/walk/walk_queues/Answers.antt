@@ -1,48 +1,39 @@
 use native.Mathlib.Omega.{arith}
-use Rattle.rules.specs.Table.{queue_count}
+use Prim.Native.Nat.{◌+◌}
+use Rattle.table.specs.Image.{view}
 use Rattle.table.specs.Queues.{view-slots}
 use Rattle.table.specs.Shape.{view-shaped}
-use Rattle.sound.specs.Walks.{pass_start, pass_next, pass_stop, pass-over, pass_end}
-use mathlib.Core.Path.{◌≡◌}
+use Rattle.sound.specs.Walks.{Passing, pass_start, pass_next, pass_stop, pass_end, pass-over}
 use Rattle.sound.proofs.walk.walk_queues.Goals as goal
 
 pub loop-q-init : goal.loop-q-init
 loop-q-init c =
-    let e = c.next_front-q.ensures.before in
-    (e.within, pass-over (view-shaped c.args.s.now c.requires.0) e (pass_start c.requires.1))
+    (omega arith, pass_start (omega arith))
 
-pub pass_queue-k-requires : goal.pass_queue-k-requires
-pass_queue-k-requires c =
-    (omega arith, omega arith, c.loop-q.invariant.1.size)
+pub returns-in_err-n : goal.returns-in_err-n
+returns-in_err-n c =
+    let s = c.args.s.now in
+    let q = c.in-Some.q in
+    let p = pass-over (view-shaped s (omega arith)) c.in-Some.ensures.first.before c.loop-q.invariant.1 in
+    rw c.from_residual.ensures (pass_stop p c.in-Some.ensures.there (view-slots s (omega arith) q c.in-Some.ensures.there) c.pass_queue.ensures c.in_err-n.was)
 
-pub shape_of-spots-then-k-gt32 : goal.shape_of-spots-then-k-gt32
-shape_of-spots-then-k-gt32 c =
-    omega (arith, c.loop-q.invariant.1.size)
-
-pub returns-then-k-gt32 : goal.returns-then-k-gt32
-returns-then-k-gt32 c =
-    let l = c.loop-q in
-    let a = c.args in
-    pass_stop l.invariant.1 (omega arith) (view-slots a.s.now (omega arith) l.q (omega arith)) c.pass_queue-k.ensures (omega arith)
+-- The queues up to the next front, and its own.
+passed : (c : goal.In_ok-n) → Passing (view c.args.s.now) c.args.spots.now (c.in-Some.q + 1) c.pass_queue.new.spots (c.loop-q.n + c.in_ok-n.field-0)
+passed c =
+    let s = c.args.s.now in
+    let q = c.in-Some.q in
+    let p = pass-over (view-shaped s (omega arith)) c.in-Some.ensures.first.before c.loop-q.invariant.1 in
+    pass_next p c.in-Some.ensures.there (view-slots s (omega arith) q c.in-Some.ensures.there) c.pass_queue.ensures c.in_ok-n.was
 
 pub overflow_add-n : goal.overflow_add-n
 overflow_add-n c =
-    omega (arith, c.loop-q.invariant.1.most)
-
-pub loop-q-smaller : goal.loop-q-smaller
-loop-q-smaller c =
-    omega (arith, c.next_front-q-in-loop-q.ensures.before.from)
+    let most = (passed c).most in
+    omega (arith, most, c.in-Some.ensures.there)
 
 pub loop-q-preserved : goal.loop-q-preserved
 loop-q-preserved c =
-    let l = c.loop-q in
-    let e = c.next_front-q-in-loop-q.ensures.before in
-    (e.within, pass-over (view-shaped c.args.s.now c.requires.0) e (pass_next l.invariant.1 (omega arith) (view-slots c.args.s.now c.requires.0 l.q (omega arith)) c.pass_queue-k.ensures (omega arith)))
-
-pub shape_of-spots : goal.shape_of-spots
-shape_of-spots c =
-    omega (arith, c.loop-q.invariant.1.size)
+    (omega (arith, c.in-Some.ensures.there), passed c)
 
 pub returns : goal.returns
 returns c =
-    let e : c.loop-q.q ≡ queue_count = omega arith in pass_end (rw e at c.loop-q.invariant.1)
+    pass_end (pass-over (view-shaped c.args.s.now (omega arith)) c.in_default.ensures.first.before c.loop-q.invariant.1)

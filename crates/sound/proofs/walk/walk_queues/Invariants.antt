@@ -5,7 +5,7 @@ use Rattle.sound.specs.Walks.{Passing}
 use Rattle.sound.proofs.walk.walk_queues.Given as goal
 
 abbrev pub invariant-loop-q : goal.invariant-loop-q
-invariant-loop-q l = (l.q ≤ queue_count) × Passing (view l.s) l.initial.spots l.q l.spots l.n
+invariant-loop-q l = (l.from ≤ queue_count) × Passing (view l.s) l.initial.spots l.from l.spots l.n
 
 abbrev pub decreases-loop-q : goal.decreases-loop-q
-decreases-loop-q l = queue_count - l.q
+decreases-loop-q l = queue_count - l.from

@@ -5,4 +5,4 @@ use Rattle.sound.proofs.works.are_works_right.Goals as goal
 pub carry_all-requires : goal.carry_all-requires
 unfolding is_blank
 carry_all-requires c =
-    (c.requires, none_given _ refl refl)
+    none_given _ refl refl

@@ -6,4 +6,4 @@ use Rattle.table.proofs.channels.get_message_at.Goals as goal
 pub returns : goal.returns
 returns c =
     let a = c.args in
-    c.get4.ensures ∙ view-message a.s.now a.i (omega arith) a.j (omega arith)
+    c.get.ensures ∙ view-message a.s.now a.i (omega arith) a.j (omega arith)

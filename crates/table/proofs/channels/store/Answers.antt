@@ -8,4 +8,4 @@ pub returns : goal.returns
 unfolding made
 returns c =
     put _ _ _ 0 (row _) (search rules) (search rules) (search rules)
-    (then _ _ _ _ _ _ c.put1-3.ensures.0 (then _ _ _ _ _ _ c.put1-2.ensures.0 c.put1.ensures.0))
+    (then _ _ _ _ _ _ c.put-3.ensures.0 (then _ _ _ _ _ _ c.put-2.ensures.0 c.put.ensures.0))

@@ -1,16 +1,9 @@
 use mathlib.Core.Path.{sym, ap, ◌∙◌}
 use Prim.Native.Nat.{ℕ}
-use native.Mathlib.Omega.{arith}
-use Rattle.queue.specs.Slots.{place_of}
-use Rattle.rules.specs.Table.{queue_of, with_ready}
+use Rattle.rules.specs.Table.{with_ready}
 use Rattle.table.specs.Image.{view}
 use Rattle.table.specs.Ready.{left_able, left_other}
 use Rattle.table.proofs.levels.drop_from.Goals as goal
-
-pub drop_at-requires : goal.drop_at-requires
-drop_at-requires c =
-    let a = c.args in
-    (omega arith, omega arith, c.requires.2 ∙ ap (λ (q : ℕ). place_of a.i (queue_of (view a.s.now) q)) c.if-q-eq-ABLE_QUEUE.true, omega arith)
 
 pub returns-then-q-eq-ABLE_QUEUE : goal.returns-then-q-eq-ABLE_QUEUE
 returns-then-q-eq-ABLE_QUEUE c =

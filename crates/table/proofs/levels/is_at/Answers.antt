@@ -1,20 +1,14 @@
-use mathlib.Core.Path.{sym, ◌∙◌}
 use native.Mathlib.Omega.{arith}
 use Rattle.rules.specs.Table.{able_queue}
 use Rattle.table.specs.Image.{view}
 use Rattle.table.specs.Queues.{view-slots}
-use Rattle.table.proofs.Words.{at_free, at_past, at_task}
+use Rattle.table.proofs.Words.{at_past, at_task}
 use Rattle.table.proofs.levels.is_at.Goals as goal
 
 pub returns-then-k-ge-SLOTS : goal.returns-then-k-ge-SLOTS
 returns-then-k-ge-SLOTS c =
     let a = c.args in
     at_past a.l a.k (view a.s.now) c.if-k-ge-SLOTS.true (view-slots a.s.now (omega arith) able_queue (omega arith))
-
-pub returns-then-v-eq0 : goal.returns-then-v-eq0
-returns-then-v-eq0 c =
-    let a = c.args in
-    at_free a.l a.k (view a.s.now) (sym c.slot_in-v.ensures ∙ c.if-v-eq0.true)
 
 pub returns : goal.returns
 returns c =

@@ -14,5 +14,5 @@ returns c =
     let n = c.count_in-n in
     let a = c.args in
     let old = present (view a.s.now) a.c in
-    let x = laying_more (laying_present c.requires.0 (view-shaped a.s.now c.requires.1) n.result n.ensures.0 (a.v ∷ [])) (sym (get_or_at old a.v [] 0 n.result (sym n.ensures.0))) c.put_slot.ensures in
+    let x = laying_more (laying_present c.requires (view-shaped a.s.now (omega arith)) n.result n.ensures.0 (a.v ∷ [])) (sym (get_or_at old a.v [] 0 n.result (sym n.ensures.0))) c.put_slot.ensures in
     one_more x c.set_held.ensures (omega (arith, n.ensures.0)) (length-append old (a.v ∷ [])) (omega (arith, n.ensures.0))

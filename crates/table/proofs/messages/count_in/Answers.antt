@@ -1,16 +1,12 @@
-use mathlib.Core.Path.{◌∙◌}
-use native.Mathlib.Omega.{arith}
+use Rattle.std.proofs.Common.{arith, length-take}
+use Rattle.rules.specs.Table.{channel_of, row_of}
+use Rattle.rules.specs.Messages.{present}
 use Rattle.table.specs.Image.{view}
 use Rattle.table.specs.Shape.{view-shaped}
-use Rattle.table.proofs.Laid.{count_few, count-many}
 use Rattle.table.proofs.messages.count_in.Goals as goal
 
-pub returns-then-held-lt-MOST_MESSAGES : goal.returns-then-held-lt-MOST_MESSAGES
-returns-then-held-lt-MOST_MESSAGES c =
-    let l = c.args.s.now in
-    (c.get_held-held.ensures ∙ count_few (view l) (view-shaped l c.requires.1) c.args.c c.requires.0 (omega (arith, c.get_held-held.ensures, c.if-held-lt-MOST_MESSAGES.true)), omega (arith, c.if-held-lt-MOST_MESSAGES.true))
-
 pub returns : goal.returns
+unfolding present
 returns c =
-    let l = c.args.s.now in
-    (count-many (view l) (view-shaped l c.requires.1) c.args.c c.requires.0 (omega (arith, c.get_held-held.ensures, c.if-held-lt-MOST_MESSAGES.false)), omega arith)
+    let t = view c.args.s.now in
+    (omega (arith, c.min.ensures, c.get_held.ensures, length-take (channel_of t c.args.c).held (row_of t c.args.c), (view-shaped c.args.s.now (omega arith)).rows c.args.c c.requires), omega (arith, c.min.ensures))

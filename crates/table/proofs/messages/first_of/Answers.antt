@@ -1,3 +1,4 @@
+use native.Mathlib.Omega.{arith}
 use mathlib.Core.Path.{sym, ◌∙◌}
 use Rattle.table.specs.Image.{view}
 use Rattle.table.specs.Shape.{view-shaped}
@@ -7,9 +8,9 @@ use Rattle.table.proofs.messages.first_of.Goals as goal
 pub returns-then-get_held-eq0 : goal.returns-then-get_held-eq0
 returns-then-get_held-eq0 c =
     let l = c.args.s.now in
-    first_none (view l) (view-shaped l c.requires.1) c.args.c c.requires.0 (sym c.get_held.ensures ∙ c.if-get_held-eq0.true)
+    first_none (view l) (view-shaped l (omega arith)) c.args.c c.requires (sym c.get_held.ensures ∙ c.if-get_held-eq0.true)
 
 pub returns : goal.returns
 returns c =
     let l = c.args.s.now in
-    c.get_message_at.ensures ∙ first_there (view l) (view-shaped l c.requires.1) c.args.c c.requires.0 (λ e. c.if-get_held-eq0.false (c.get_held.ensures ∙ e))
+    c.get_message_at.ensures ∙ first_there (view l) (view-shaped l (omega arith)) c.args.c c.requires (λ e. c.if-get_held-eq0.false (c.get_held.ensures ∙ e))

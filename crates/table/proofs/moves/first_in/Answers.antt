@@ -13,6 +13,3 @@ returns-then-q-ge-QUEUES c =
     let t = view a.s.now in
     let h : length t.queues ≤ a.q = omega (arith, (view-shaped a.s.now (omega arith)).queues) in
     ap (λ (l : List ℕ). get_or l 0 0) (sym (get_or-eq_default t.queues [] h))
-
-pub returns : goal.returns
-returns c = c.slot_in.ensures

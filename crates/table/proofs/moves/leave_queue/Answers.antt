@@ -1,8 +1,7 @@
-use mathlib.Core.Path.{sym, ap, ◌∙◌}
+use mathlib.Core.Path.{sym, ap}
 use Prim.Native.Nat.{ℕ}
 use native.Mathlib.Omega.{arith}
 use Rattle.rules.specs.Table.{with_ready}
-use Rattle.rules.specs.Move.{leave}
 use Rattle.table.specs.Image.{view}
 use Rattle.table.specs.Ready.{left_other}
 use Rattle.table.specs.Settled.{leave_none}
@@ -13,11 +12,6 @@ pub returns-then-q-ge-QUEUES : goal.returns-then-q-ge-QUEUES
 returns-then-q-ge-QUEUES c =
     let a = c.args in
     sym (leave_none a.q a.i (view a.s.now) c.if-q-ge-QUEUES.true)
-
-pub returns-then-q-eq-ABLE_QUEUE : goal.returns-then-q-eq-ABLE_QUEUE
-returns-then-q-eq-ABLE_QUEUE c =
-    let a = c.args in
-    c.leave_able.ensures ∙ ap (λ (q : ℕ). leave q a.i (view a.s.now)) (sym c.if-q-eq-ABLE_QUEUE.true)
 
 pub returns : goal.returns
 returns c =

@@ -8,6 +8,3 @@ pub returns : goal.returns
 returns c =
     let a = c.args in
     moved-again a.q a.i (view a.s.now) _ _ (omega arith) (view-shaped a.s.now (omega arith)).queues c.remove_in.ensures c.insert_in.ensures
-
-pub returns-then-at-lt-SLOTS : goal.returns-then-at-lt-SLOTS
-returns-then-at-lt-SLOTS c = c.slide_in.ensures

@@ -1,7 +1,6 @@
-use mathlib.Core.Path.{◌≡◌}
-use mathlib.Core.Bool.{true, false}
-use borrow.Author.Tests.{eq-eqb, ne_eqb}
-use Rattle.rules.specs.Table.{is_able, task_of}
+use Rattle.std.proofs.Common.{rules, ◌≡◌, ℕ, false, true}
+use Rattle.std.proofs.lemmas.Bool.{ne_eqb}
+use Rattle.rules.specs.Table.{task_of, is_able}
 use Rattle.rules.specs.Family.{of_state, place_of}
 use Rattle.table.specs.Image.{view}
 use Rattle.table.proofs.moves.place_of.Goals as goal
@@ -13,37 +12,38 @@ returns-then-is_able c =
     let h : is_able (task_of (view a.s.now) a.i) ≡ true = cc in
     rw h
 
-pub returns-then-state-eq2 : goal.returns-then-state-eq2
+pub returns-in-2 : goal.returns-in-2
 unfolding place_of of_state
-returns-then-state-eq2 c =
+returns-in-2 c =
     let a = c.args in
     let h : is_able (task_of (view a.s.now) a.i) ≡ false = cc in
-    rw (h, ← c.get_state-state.ensures, ← c.get_object-object.ensures, eq-eqb _ _ c.if-state-eq2.true)
+    rw (h, ← c.get_state.ensures, ← c.get_object-object.ensures, c.in-2.is)
 
-pub returns-then-state-eq3 : goal.returns-then-state-eq3
+pub returns-in-3 : goal.returns-in-3
 unfolding place_of of_state
-returns-then-state-eq3 c =
+returns-in-3 c =
     let a = c.args in
     let h : is_able (task_of (view a.s.now) a.i) ≡ false = cc in
-    rw (h, ← c.get_state-state.ensures, ← c.get_object-object.ensures, ne_eqb _ _ c.if-state-eq2.false, eq-eqb _ _ c.if-state-eq3.true)
+    rw (h, ← c.get_state.ensures, ← c.get_object-object.ensures, c.in-3.is)
 
-pub returns-then-state-eq4 : goal.returns-then-state-eq4
+pub returns-in-4 : goal.returns-in-4
 unfolding place_of of_state
-returns-then-state-eq4 c =
+returns-in-4 c =
     let a = c.args in
     let h : is_able (task_of (view a.s.now) a.i) ≡ false = cc in
-    rw (h, ← c.get_state-state.ensures, ← c.get_object-object.ensures, ne_eqb _ _ c.if-state-eq2.false, ne_eqb _ _ c.if-state-eq3.false, eq-eqb _ _ c.if-state-eq4.true)
+    rw (h, ← c.get_state.ensures, ← c.get_object-object.ensures, c.in-4.is)
 
-pub returns-then-state-eq5 : goal.returns-then-state-eq5
+pub returns-in-5 : goal.returns-in-5
 unfolding place_of of_state
-returns-then-state-eq5 c =
+returns-in-5 c =
     let a = c.args in
     let h : is_able (task_of (view a.s.now) a.i) ≡ false = cc in
-    rw (h, ← c.get_state-state.ensures, ← c.get_object-object.ensures, ne_eqb _ _ c.if-state-eq2.false, ne_eqb _ _ c.if-state-eq3.false, ne_eqb _ _ c.if-state-eq4.false, eq-eqb _ _ c.if-state-eq5.true)
+    rw (h, ← c.get_state.ensures, ← c.get_object-object.ensures, c.in-5.is)
 
-pub returns : goal.returns
+pub returns-in_default : goal.returns-in_default
 unfolding place_of of_state
-returns c =
+returns-in_default c =
     let a = c.args in
     let h : is_able (task_of (view a.s.now) a.i) ≡ false = cc in
-    rw (h, ← c.get_state-state.ensures, ne_eqb _ _ c.if-state-eq2.false, ne_eqb _ _ c.if-state-eq3.false, ne_eqb _ _ c.if-state-eq4.false, ne_eqb _ _ c.if-state-eq5.false)
+    let s : ℕ = c.get_state.result in
+    rw (h, ← c.get_state.ensures, ne_eqb s 2 (search rules), ne_eqb s 3 (search rules), ne_eqb s 4 (search rules), ne_eqb s 5 (search rules))

@@ -1,14 +1,9 @@
 use mathlib.Core.Path.{sym}
 use Rattle.table.specs.Image.{view}
 use Rattle.laws.specs.queues.Put.{put_out}
-use borrow.Author.Rules.{rules}
 use Rattle.table.proofs.moves.put_task.Goals as goal
 
 pub returns-then-i-ge-TASKS : goal.returns-then-i-ge-TASKS
 returns-then-i-ge-TASKS c =
     let a = c.args in
     sym (put_out a.i a.k (view a.s.now) c.if-i-ge-TASKS.true)
-
-pub returns : goal.returns
-returns c =
-    search rules

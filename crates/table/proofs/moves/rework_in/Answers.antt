@@ -4,19 +4,14 @@ use Rattle.rules.specs.Table.{queue_of}
 use Rattle.table.specs.Image.{view}
 use Rattle.table.specs.Queues.{view-slots}
 use Rattle.table.specs.Shape.{view-shaped}
-use Rattle.table.proofs.Places.{rework_slid, rework_again, packed_still}
+use Rattle.table.proofs.Places.{rework_slid, rework_again}
 use Rattle.table.proofs.moves.rework_in.Goals as goal
 
 pub drop_from-requires : goal.drop_from-requires
 drop_from-requires c =
     let a = c.args in
     let l = queue_of (view a.s.now) a.q in
-    (omega arith, omega arith, packed-found a.i _ l c.packed_in-at.ensures (omega (arith, view-slots a.s.now (omega arith) a.q (omega arith))), omega arith)
-
-pub slide_in-requires : goal.slide_in-requires
-slide_in-requires c =
-    let a = c.args in
-    (omega arith, omega arith, omega arith, packed_still a.i a.p a.q (view a.s.now) _ _ _ c.drop_from.ensures c.set_work.ensures c.packed_in-at.ensures, omega arith)
+    (omega arith, omega arith, packed-found a.i _ l c.packed_in-at.ensures (omega (arith, view-slots a.s.now (omega arith) a.q (omega arith))))
 
 pub returns-then-at-lt-SLOTS : goal.returns-then-at-lt-SLOTS
 returns-then-at-lt-SLOTS c =

@@ -8,4 +8,4 @@ use Rattle.table.proofs.mutexes.set_hold.Goals as goal
 pub returns : goal.returns
 unfolding made
 returns c =
-    put _ _ _ 1 (_ ∷ _ ∷ []) (search rules) (search rules) (search rules) (then _ _ _ _ _ _ c.put1-2.ensures.0 c.put1.ensures.0)
+    put _ _ _ 1 (_ ∷ _ ∷ []) (search rules) (search rules) (search rules) (then _ _ _ _ _ _ c.put-2.ensures.0 c.put.ensures.0)

@@ -4,4 +4,4 @@ use Rattle.table.proofs.numbers.get_default.Goals as goal
 
 pub returns : goal.returns
 returns c =
-    c.get2.ensures ∙ view_default c.args.s.now
+    c.get.ensures ∙ view_default c.args.s.now

@@ -4,4 +4,4 @@ use Rattle.table.proofs.numbers.get_depth.Goals as goal
 
 pub returns : goal.returns
 returns c =
-    c.get1.ensures ∙ view-depth c.args.s.now
+    c.get.ensures ∙ view-depth c.args.s.now

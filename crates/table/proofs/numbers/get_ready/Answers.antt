@@ -4,4 +4,4 @@ use Rattle.table.proofs.numbers.get_ready.Goals as goal
 
 pub returns : goal.returns
 returns c =
-    c.get8.ensures ∙ view-ready c.args.s.now
+    c.get.ensures ∙ view-ready c.args.s.now

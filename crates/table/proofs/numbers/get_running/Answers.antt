@@ -4,4 +4,4 @@ use Rattle.table.proofs.numbers.get_running.Goals as goal
 
 pub returns : goal.returns
 returns c =
-    c.get1.ensures ∙ view-running c.args.s.now
+    c.get.ensures ∙ view-running c.args.s.now

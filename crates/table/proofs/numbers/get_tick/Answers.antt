@@ -4,4 +4,4 @@ use Rattle.table.proofs.numbers.get_tick.Goals as goal
 
 pub returns : goal.returns
 returns c =
-    c.get4.ensures ∙ view-tick c.args.s.now
+    c.get.ensures ∙ view-tick c.args.s.now

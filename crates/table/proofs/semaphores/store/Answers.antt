@@ -7,4 +7,4 @@ use Rattle.table.proofs.semaphores.store.Goals as goal
 pub returns : goal.returns
 unfolding made
 returns c =
-    put _ _ _ 0 (row _) (search rules) (search rules) (search rules) (then _ _ _ _ _ _ c.put4.ensures.0 c.put1.ensures.0)
+    put _ _ _ 0 (row _) (search rules) (search rules) (search rules) (then _ _ _ _ _ _ c.put-2.ensures.0 c.put.ensures.0)

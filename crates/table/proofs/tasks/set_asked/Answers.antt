@@ -9,5 +9,5 @@ pub returns : goal.returns
 unfolding made
 returns c =
     put_then _ _ _ _ 13 (_ ∷ []) _ (search rules) (search rules) (search rules) (search rules)
-    (put _ _ _ 8 (_ ∷ _ ∷ []) (search rules) (search rules) (search rules) (then _ _ _ _ _ _ c.put1-2.ensures.0 c.put1.ensures.0))
-    c.put4.ensures.0
+    (put _ _ _ 8 (_ ∷ _ ∷ []) (search rules) (search rules) (search rules) (then _ _ _ _ _ _ c.put-2.ensures.0 c.put.ensures.0))
+    c.put-3.ensures.0

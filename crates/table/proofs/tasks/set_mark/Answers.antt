@@ -8,5 +8,5 @@ pub returns : goal.returns
 unfolding made
 returns c =
     put_then _ _ _ _ 12 (_ ∷ []) _ (search rules) (search rules) (search rules) (search rules)
-    (put _ _ _ 6 (_ ∷ []) (search rules) (search rules) (search rules) c.put1.ensures.0)
-    c.put4.ensures.0
+    (put _ _ _ 6 (_ ∷ []) (search rules) (search rules) (search rules) c.put.ensures.0)
+    c.put-2.ensures.0

@@ -9,8 +9,8 @@ pub returns : goal.returns
 unfolding made
 returns c =
     put_then _ _ _ _ 10 (drop 10 (row c.args.k)) _ (search rules) (search rules) (search rules) (search rules) c.store_bytes.ensures
-    (then _ _ _ _ _ _ c.put4-3.ensures.0
-    (then _ _ _ _ _ _ c.put4-2.ensures.0
-    (then _ _ _ _ _ _ c.put4.ensures.0
-    (then _ _ _ _ _ _ c.put2-2.ensures.0
-    c.put2.ensures.0))))
+    (then _ _ _ _ _ _ c.put-5.ensures.0
+    (then _ _ _ _ _ _ c.put-4.ensures.0
+    (then _ _ _ _ _ _ c.put-3.ensures.0
+    (then _ _ _ _ _ _ c.put-2.ensures.0
+    c.put.ensures.0))))

@@ -9,7 +9,7 @@ pub returns : goal.returns
 unfolding made
 returns c =
     put_then _ _ _ _ 6 (take 4 (drop 6 (row c.args.k))) _ (search rules) (search rules) (search rules) (search rules) c.store_first.ensures
-    (then _ _ _ _ _ _ c.put1-4.ensures.0
-    (then _ _ _ _ _ _ c.put1-3.ensures.0
-    (then _ _ _ _ _ _ c.put1-2.ensures.0
-    c.put1.ensures.0)))
+    (then _ _ _ _ _ _ c.put-4.ensures.0
+    (then _ _ _ _ _ _ c.put-3.ensures.0
+    (then _ _ _ _ _ _ c.put-2.ensures.0
+    c.put.ensures.0)))

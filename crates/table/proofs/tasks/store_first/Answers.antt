@@ -9,9 +9,9 @@ pub returns : goal.returns
 unfolding made
 returns c =
     put _ _ _ 0 (take 6 (row c.args.k)) (search rules) (search rules) (search rules)
-    (then _ _ _ _ _ _ c.put1-6.ensures.0
-    (then _ _ _ _ _ _ c.put1-5.ensures.0
-    (then _ _ _ _ _ _ c.put1-4.ensures.0
-    (then _ _ _ _ _ _ c.put1-3.ensures.0
-    (then _ _ _ _ _ _ c.put1-2.ensures.0
-    c.put1.ensures.0)))))
+    (then _ _ _ _ _ _ c.put-6.ensures.0
+    (then _ _ _ _ _ _ c.put-5.ensures.0
+    (then _ _ _ _ _ _ c.put-4.ensures.0
+    (then _ _ _ _ _ _ c.put-3.ensures.0
+    (then _ _ _ _ _ _ c.put-2.ensures.0
+    c.put.ensures.0)))))

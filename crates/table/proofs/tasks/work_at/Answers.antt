@@ -14,6 +14,3 @@ returns-then-i-ge-TASKS c =
     let t = view a.s.now in
     let h : length t.tasks ≤ a.i = omega (arith, (view-shaped a.s.now (omega arith)).tasks) in
     ap (λ (k : Task). k.work) (sym (get_or-eq_default t.tasks no_task h))
-
-pub returns : goal.returns
-returns c = c.get_work.ensures

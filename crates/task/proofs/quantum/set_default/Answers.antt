@@ -9,12 +9,12 @@ unfolding default_answer
 returns-then-quantum-eq0 c =
     refused (rw (eq-eqb _ _ c.if-quantum-eq0.true)) refl
 
-pub returns-then-quantum-gt65535 : goal.returns-then-quantum-gt65535
+pub returns-then-quantum-gt-MOST : goal.returns-then-quantum-gt-MOST
 unfolding default_answer
-returns-then-quantum-gt65535 c =
-    refused (rw (ne_eqb _ _ c.if-quantum-eq0.false, lt-ltb _ _ c.if-quantum-gt65535.true)) refl
+returns-then-quantum-gt-MOST c =
+    refused (rw (ne_eqb _ _ c.if-quantum-eq0.false, lt-ltb _ _ c.if-quantum-gt-MOST.true)) refl
 
 pub returns : goal.returns
 unfolding default_answer set_default
 returns c =
-    served (rw (ne_eqb _ _ c.if-quantum-eq0.false, le-ltb _ _ c.if-quantum-gt65535.false)) refl (cc)
+    served (rw (ne_eqb _ _ c.if-quantum-eq0.false, le-ltb _ _ c.if-quantum-gt-MOST.false)) refl (cc)

@@ -1,4 +1,5 @@
-use Rattle.std.proofs.Common.{sym, ◌∙◌, rules}
+use native.Mathlib.Omega.{arith}
+use Rattle.std.proofs.Common.{sym, ◌∙◌}
 use Rattle.table.specs.Image.{view}
 use Rattle.table.specs.Shape.{view-shaped}
 use Rattle.time.proofs.PeerLaws.{alone_none, second-peer}
@@ -11,8 +12,4 @@ returns-then-is_alone c =
 pub returns-then-is_second_peer : goal.returns-then-is_second_peer
 returns-then-is_second_peer c =
     let l = c.args.s.now in
-    sym (second-peer c.args.i (view l) (view-shaped l c.requires).tasks (sym c.is_second_peer.ensures ∙ c.if-is_second_peer.true))
-
-pub returns : goal.returns
-returns c =
-    search rules
+    sym (second-peer c.args.i (view l) (view-shaped l (omega arith)).tasks (sym c.is_second_peer.ensures ∙ c.if-is_second_peer.true))

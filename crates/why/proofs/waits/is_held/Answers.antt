@@ -1,12 +1,9 @@
-use native.Mathlib.Omega.{arith}
+use Rattle.std.proofs.Common.{arith, ◌∙◌}
+use borrow.Author.Tests.{le-ltb}
 use Rattle.table.specs.Shape.{view-shaped}
 use Rattle.why.specs.Awaited.{no_holder}
 use Rattle.why.proofs.waits.is_held.Goals as goal
 
-pub returns-then-o-ge16 : goal.returns-then-o-ge16
-returns-then-o-ge16 c =
-    no_holder (view-shaped c.args.s.now (omega arith)) c.if-o-ge16.true
-
-pub returns : goal.returns
-returns c =
-    cc
+pub returns-else-o-lt-MUTEXES : goal.returns-else-o-lt-MUTEXES
+returns-else-o-lt-MUTEXES c =
+    let a = c.args in le-ltb _ _ (omega arith) ∙ no_holder (view-shaped a.s.now (omega arith)) (omega arith)

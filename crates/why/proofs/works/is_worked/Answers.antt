@@ -5,7 +5,7 @@ use Rattle.why.proofs.works.is_worked.Goals as goal
 pub carry_all-requires : goal.carry_all-requires
 unfolding is_blank
 carry_all-requires c =
-    (c.requires.1, none_given _ refl refl)
+    none_given _ refl refl
 
 pub returns : goal.returns
 returns c =

@@ -1,0 +1,6 @@
+use Rattle.std.proofs.Common.{arith}
+use Rattle.columns.proofs.Cells as cells
+use Rattle.columns.proofs.U32Word.read.Goals as goal
+
+pub returns : goal.returns
+returns c = omega (arith, c.from_le_bytes.ensures, cells.read4 c.args.s.now c.args.at)

@@ -1,0 +1,6 @@
+use Rattle.std.proofs.Common.{arith}
+use Rattle.columns.proofs.Cells as cells
+use Rattle.columns.proofs.U64Word.write.Goals as goal
+
+pub returns : goal.returns
+returns c = let a = c.args in (cells.put8 a.s.now a.at a.self c.to_le_bytes-bytes.result c.to_le_bytes-bytes.ensures (omega arith), omega arith)

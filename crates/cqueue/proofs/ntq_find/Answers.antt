@@ -1,5 +1,0 @@
-use Rattle.cqueue.proofs.ntq_find.Goals as goal
-
-pub returns : goal.returns
-returns c =
-    cc

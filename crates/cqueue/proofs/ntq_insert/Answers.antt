@@ -1,6 +1,0 @@
-use borrow.Author.Rules.{rules}
-use Rattle.cqueue.proofs.ntq_insert.Goals as goal
-
-pub returns : goal.returns
-returns c =
-    (cc, search rules)

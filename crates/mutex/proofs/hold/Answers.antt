@@ -1,5 +1,0 @@
-use Rattle.mutex.proofs.hold.Goals as goal
-
-pub returns : goal.returns
-returns c =
-    cc

@@ -1,5 +1,0 @@
-use Rattle.task.proofs.runs_locked.Goals as goal
-
-pub returns : goal.returns
-returns c =
-    cc

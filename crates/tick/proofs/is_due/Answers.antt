@@ -1,5 +1,0 @@
-use Rattle.tick.proofs.is_due.Goals as goal
-
-pub returns : goal.returns
-returns c =
-    cc
