@@ -12,6 +12,9 @@ use service::answers::{self, Answer};
 use table::families::{Channels, Groups, Mutexes, Semaphores};
 use table::layout::Image;
 
+// The answer that no service gives: an interrupt may not make the call.
+const BY_INTERRUPT: u32 = 5;
+
 // Whether an interrupt may make this call.
 fn is_for_interrupts(c: rules::Call) -> bool
     ensures { result ≡ for_interrupts c }
@@ -84,7 +87,7 @@ pub fn serve(s: &mut Image, c: rules::Call, interrupt: bool) -> u32
 {
     let may = is_for_interrupts(c);
     if interrupt & !may {
-        return 5;
+        return BY_INTERRUPT;
     }
     serve_task(s, c)
 }

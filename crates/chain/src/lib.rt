@@ -17,7 +17,8 @@ pub mod local;
 pub mod rings;
 pub mod walk;
 
-// What each task is given by those who wait for it: a priority, or 255, which is none.
+// What each task is given by those who wait for it: a priority, or 255, which is none. A byte and no Option: the smallest is looked for, and none is
+// behind all.
 pub type Priorities = [u8; layout::TASKS];
 
 // The task that holds mutex m; 32, which is no task, for none. No Option: an image that is not sound may name any number there, and a
@@ -57,6 +58,7 @@ fn carry(s: &Image, given: &mut Priorities, i: usize)
 {
     let base = tasks::get_base(s, i);
     let mut j = next_of(s, i);
+    // A `while`: it goes from holder to holder and counts nothing.
     while j < layout::TASKS {
         let v = given[j];
         if v <= base {
@@ -97,7 +99,8 @@ fn carry_eight(s: &Image, given: &mut Priorities, a: usize)
 
 // What each task is given by those from which a chain of waits leads to it: the smallest base priority of theirs where it is smaller than
 // its own, and else 255, as the bytes lent are. Eight tasks whose states together make less than that of a wait for a
-// mutex have none among them that waits for one, and are passed over.
+// mutex have none among them that waits for one, and are passed over. The caller lends the array: one that is given back
+// would come through memory.
 pub fn carry_all(s: &Image, given: &mut Priorities)
     requires { NoneGiven given.old }
     ensures { given.new ≡ given_to_all (view s.now) }
@@ -109,7 +112,8 @@ pub fn carry_all(s: &Image, given: &mut Priorities)
     }
 }
 
-// The working priority of task i, worked out afresh, where `given` has what it is given.
+// The working priority of task i, worked out afresh, where `given` has what it is given. That it is of this table is a clause: a type
+// would have to hold the image too, which changes on the way.
 pub fn fresh_of(s: &Image, given: &Priorities, i: usize) -> u8
     requires { (i < task_count) × Given (view s.now) given.now }
     ensures { result ≡ fresh_in (view s.now) i }

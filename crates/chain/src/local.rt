@@ -20,14 +20,13 @@ fn with_first(s: &Image, i: usize, m: usize, best: u8) -> u8
     if mutexes::get_holder(s, m) as usize != i + 1 {
         return best;
     }
-    let v = moves::first_in(s, layout::MUTEX_QUEUE + m) as usize;
-    if v == 0 {
+    let Some(v) = moves::first_in(s, layout::MUTEX_QUEUE + m) else {
+        return best;
+    };
+    if layout::TASKS <= v {
         return best;
     }
-    if layout::TASKS < v {
-        return best;
-    }
-    let w = tasks::get_work(s, v - 1);
+    let w = tasks::get_work(s, v);
     if w < best {
         return w;
     }
@@ -46,7 +45,8 @@ fn local_of(s: &Image, i: usize) -> u8
     best
 }
 
-// A chain as urgent as p leads to task i: it and those behind it rise to p, up to one that works at p or better.
+// A chain as urgent as p leads to task i: it and those behind it rise to p, up to one that works at p or better. It calls itself with one less, as
+// the rules' `rise` does: a loop would have to say at each turn what is left to do.
 fn raise_on(s: &mut Image, i: usize, p: u8, left: usize)
     ensures { view s.new ≡ rise p left i (view s.old) }
 {
@@ -64,7 +64,7 @@ fn raise_on(s: &mut Image, i: usize, p: u8, left: usize)
     raise_on(s, further, p, left - 1);
 }
 
-// Task i and those behind it get their local numbers, up to one that has it.
+// Task i and those behind it get their local numbers, up to one that has it. No twin of `raise_on`, as each task gets another number.
 fn lower_on(s: &mut Image, i: usize, left: usize)
     ensures { view s.new ≡ fall left i (view s.old) }
 {

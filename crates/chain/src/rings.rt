@@ -44,7 +44,7 @@ fn runs_out(s: &Image, j: usize) -> bool
     layout::TASKS <= at
 }
 
-// Whether each chain has an end: there is no ring.
+// Whether each chain has an end: there is no ring. It stops at the first that has none.
 pub fn no_rings(s: &Image) -> bool
     ensures { result ≡ ringless task_count (next (view s.now)) most task_count }
 {

@@ -43,7 +43,7 @@ fn pass_right(s: &Image, given: &Priorities, i: usize, left: usize) -> Stand
 }
 
 // From task i along the holders, `left` tasks at most: each gets its working priority worked out afresh. These do not change on the way,
-// so what each task is given along the chains has been found out before.
+// so what each task is given along the chains has been found out before. It calls itself with one less, as the rules' `walk_on` does.
 fn walk_on(s: &mut Image, given: &Priorities, i: usize, left: usize)
     requires { Given (view s.old) given.now }
     ensures { view s.new ≡ walk_on task_count next fresh_in put_work left i (view s.old) }

@@ -6,9 +6,9 @@ use mathlib.Core.List.{List}
 use Prim.Native.Nat.{ℕ, ◌-◌, ◌≤◌, ◌<◌}
 use native.Mathlib.Omega.{arith}
 use lib.Dec.{eqb, ltb, leb}
-use borrow.Author.Tests.{le-leb, lt-leb, lt-ltb, le-ltb, eq-eqb, ne_eqb, ltb-false}
+use borrow.Author.Tests.{le-leb, lt-leb, lt-ltb, le-ltb, ne_eqb, ltb-false}
 use Rattle.rules.specs.Sizes.{task_count, channel_count, most_messages, given, done, beyond_range, not_in_use, bad_value, channel_full}
-use Rattle.rules.specs.Table.{Table, task_of, channel_of, channel_queue, first_in, is_used, with_task, with_message}
+use Rattle.rules.specs.Table.{Table, task_of, channel_of, channel_queue, first_in, written, is_used, with_task, with_message}
 use Rattle.rules.specs.Messages.{present, holding}
 use Rattle.rules.specs.Move.{ended}
 use Rattle.rules.specs.Step.{changes}
@@ -56,14 +56,16 @@ module _ (i v : ℕ) (t : Table) where
 
 -- ---- a post: the channel keeps the message, or the first waiter is given it
 
-module _ (c v front : ℕ) (t : Table) {w : ℕ} {u : Table} (first : w ≡ first_in (channel_queue c) t) where
-  pub post_keeps : w ≡ 0 → u ≡ holding c (with_posted front v (present t c)) t → u ≡ post c v front t
+module _ (c v front : ℕ) (t : Table) {u : Table} where
+  pub post_keeps : 0 ≡ first_in (channel_queue c) t → u ≡ holding c (with_posted front v (present t c)) t → u ≡ post c v front t
   unfolding post
-  post_keeps e made = rw (← first, eq-eqb _ _ e) made
+  post_keeps none made = rw (← none) made
 
-  pub post-gives : (w ≡ 0 → ⊥) → u ≡ delivered (w - 1) v (ended given (w - 1) t) → u ≡ post c v front t
+  pub post-gives : (w : ℕ) → written w ≡ first_in (channel_queue c) t → u ≡ delivered w v (ended given w t) → u ≡ post c v front t
   unfolding post
-  post-gives d made = rw (← first, ne_eqb _ _ d) made
+  post-gives w first made =
+      let it : first_in (channel_queue c) t - 1 ≡ w = omega (arith, first) in
+      rw (it, ne_eqb (first_in (channel_queue c) t) 0 (λ z. omega (arith, first, z))) made
 
 -- ---- the answer of a post, and of a flush
 

@@ -57,7 +57,7 @@ fn take(s: &mut Image, i: usize, block: u32, limit: u32) -> Answer
     ensures { Served (cond (channels.offers (view s.old) i) done (block_answer block (view s.old))) (chosen (wait i limit (view s.old))) (number_of result) s.old s.new }
 {
     if channels::get_held(s, i) == 0 {
-        return object::wait_for::<Channels>(s, i, block, limit, Asked::NOTHING);
+        return object::wait_on::<Channels>(s, i, block, limit, Asked::NOTHING);
     }
     let v = messages::first_of(s, i);
     let caller = numbers::caller_of(s);
@@ -75,7 +75,7 @@ pub fn wait(s: &mut Image, i: u32, block: u32, limit: u32) -> Answer
     take(s, j, block, limit)
 }
 
-// The message v goes to the front of channel i, or to its end.
+// The message v goes to the front of channel i, or to its end. `front` is the word of the call, as the rules' `with_posted` takes it.
 fn keep(s: &mut Image, i: usize, v: u32, front: u32)
     requires { i < channel_count }
     ensures { view s.new ≡ holding i (with_posted front v (present (view s.old) i)) (view s.old) }
@@ -92,12 +92,12 @@ fn give(s: &mut Image, i: usize, v: u32, front: u32)
     requires { i < channel_count }
     ensures { view s.new ≡ chosen (post i v front (view s.old)) }
 {
-    let w = moves::first_in(s, Channels::FIRST + i);
-    if w == 0 {
-        keep(s, i, v, front);
-    } else {
-        ending::end_wait(s, ending::GIVEN, w as usize - 1);
-        deliver(s, w as usize - 1, v);
+    match moves::first_in(s, Channels::FIRST + i) {
+        None => keep(s, i, v, front),
+        Some(w) => {
+            ending::end_wait(s, ending::GIVEN, w);
+            deliver(s, w, v);
+        }
     }
     moves::choose(s);
 }

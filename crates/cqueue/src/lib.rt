@@ -10,6 +10,7 @@ ghost use Rattle.cqueue.specs.Numbers.{first_number, place_number, answer_number
 
 use queue::Refusal;
 
+// A function and no From: neither a Result nor a number is a type of this crate.
 fn answer_number(answer: Result<(), Refusal>) -> u32
     ensures { result ≡ answer_number answer }
 {

@@ -56,7 +56,7 @@ impl Desk {
 }
 
 // Takes the first cue out again and again, as long as there is one and there is room, and writes down which it was. Answers how many.
-// They come by their levels, and among equals in the order in which they came.
+// They come by their levels, and among equals in the order in which they came. Into a slice of the caller's and no Vec, so that nothing can fail.
 fn play_out(cues: &mut [u8], out: &mut [u8]) -> usize
     ensures { PlayedInOrder cues.old out.old result cues.new out.new }
 {
@@ -70,7 +70,7 @@ fn play_out(cues: &mut [u8], out: &mut [u8]) -> usize
     out.len()
 }
 
-// What the queue answered, as a line.
+// What the queue answered, as a line. No Display: `Refusal` is of `queue`, and these words are the program's.
 fn say_answer(output: Output, answer: Result<(), Refusal>) -> Output {
     match answer {
         Ok(()) => output.say(b"done\n"),

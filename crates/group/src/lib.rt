@@ -38,7 +38,7 @@ fn take(s: &mut Image, i: usize, block: u32, limit: u32, asked: Asked) -> Answer
 {
     let flags = groups::get_flags(s, i);
     if !tests::is_met(flags, asked) {
-        return object::wait_for::<Groups>(s, i, block, limit, asked);
+        return object::wait_on::<Groups>(s, i, block, limit, asked);
     }
     groups::set_flags(s, i, flags ^ tests::consumed(flags, asked));
     object::take_now(s);

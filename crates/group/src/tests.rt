@@ -43,7 +43,7 @@ pub fn consumed(flags: u32, asked: Asked) -> u32
     0
 }
 
-// The mask's flags are set, or cleared.
+// The mask's flags are set, or cleared. `on` is the word of the call, as the rules' `posted` takes it.
 pub fn posted(flags: u32, mask: u32, on: u32) -> u32
     ensures { result ≡ posted mask on flags }
 {

@@ -44,7 +44,7 @@ pub type Numbers = [u32; 6];
 // A kind's call, and how many bytes of the tape each of its numbers takes, a hexadecimal digit for each, the first number's the lowest.
 pub type Row = (Call, u32);
 
-// The list of kinds.
+// The list of kinds, by their bytes, as tapes and C have them.
 pub fn row_of(k: u8, numbers: Numbers) -> Option<Row>
     ensures { result ≡ row_of k numbers }
 {

@@ -2,9 +2,10 @@
 use mathlib.Core.Path.{◌≡◌, refl, ap, ◌∙◌}
 use mathlib.Core.Bool.{Bool, true, false, cond, not}
 use Prim.Native.Nat.{ℕ, ◌+◌, ◌-◌, ◌≤◌, ◌<◌}
+use native.Mathlib.Omega.{arith}
 use borrow.Author.Tests.{le-leb, lt-leb, lt-ltb, le-ltb, eq-eqb, ne_eqb}
 use Rattle.rules.specs.Sizes.{most_nested, given, done, none_running, not_its_holder, nested_too_deep}
-use Rattle.rules.specs.Table.{Table, nothing_asked, task_of, mutex_of}
+use Rattle.rules.specs.Table.{Table, nothing_asked, task_of, mutex_of, written}
 use Rattle.rules.specs.Move.{put, ready}
 use Rattle.rules.specs.Time.{caller_of}
 use Rattle.rules.specs.Object.{on_one, block_answer, waits, taken}
@@ -54,13 +55,15 @@ module _ (i : ℕ) (t : Table) where
 
   -- ---- a mutex that is let go is handed on
 
-  pub handed_none : (w : ℕ) → w ≡ 0 → t ≡ handed i w t
+  pub handed_none : t ≡ handed i 0 t
   unfolding handed
-  handed_none w e = rw (eq-eqb w 0 e)
+  handed_none = refl
 
-  pub handed_some : (w : ℕ) → (w ≡ 0 → ⊥) → (u : Table) → u ≡ with_hold_of i w 1 t → put (w - 1) (ready given (task_of u (w - 1))) u ≡ handed i w t
+  pub handed_some : (w : ℕ) → (u : Table) → u ≡ with_hold_of i (written w) 1 t → put w (ready given (task_of u w)) u ≡ handed i (written w) t
   unfolding handed
-  handed_some w d u e = rw (ne_eqb w 0 d, e)
+  handed_some w u e =
+      let it : written w - 1 ≡ w = omega arith in
+      rw (it, ne_eqb (written w) 0 (λ z. omega (arith, z)), e)
 
   -- ---- the answer of a post
 

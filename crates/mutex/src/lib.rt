@@ -6,6 +6,7 @@ ghost use Rattle.rules.specs.Sizes.{mutex_count};
 ghost use Rattle.rules.specs.Move.{chosen};
 ghost use Rattle.rules.specs.Object.{taken, object_create_answer};
 ghost use Rattle.rules.specs.Mutex.{is_own, with_hold_of, take_answer, create, wait_answer, wait, post_answer, handed, released, post};
+ghost use Rattle.rules.specs.Table.{written};
 ghost use Rattle.rules.specs.Family.{mutexes};
 ghost use Rattle.table.specs.Image.{view};
 ghost use Rattle.service.specs.Answers.{number_of};
@@ -58,7 +59,7 @@ fn take(s: &mut Image, i: usize, block: u32, limit: u32) -> Answer
         return Ok(Done::Now);
     }
     if holder as usize != caller + 1 {
-        return object::wait_for::<Mutexes>(s, i, block, limit, Asked::NOTHING);
+        return object::wait_on::<Mutexes>(s, i, block, limit, Asked::NOTHING);
     }
     let n = mutexes::get_nesting(s, i);
     if checks::MOST_NESTED <= n {
@@ -75,16 +76,13 @@ pub fn wait(s: &mut Image, i: u32, block: u32, limit: u32) -> Answer
     take(s, j, block, limit)
 }
 
-// The task written w is the new holder of mutex i; none where w is 0.
-fn hand_to(s: &mut Image, i: usize, w: u8)
-    requires { i < mutex_count }
-    ensures { view s.new ≡ handed i w (view s.old) }
+// Task w is the new holder of mutex i.
+fn hand_to(s: &mut Image, i: usize, w: usize)
+    requires { (i < mutex_count) × (w < 255) }
+    ensures { view s.new ≡ handed i (written w) (view s.old) }
 {
-    if w == 0 {
-        return;
-    }
-    mutexes::set_hold(s, i, w, 1);
-    ending::stand_ready(s, w as usize - 1, ending::GIVEN);
+    mutexes::set_hold(s, i, w as u8 + 1, 1);
+    ending::stand_ready(s, w, ending::GIVEN);
 }
 
 // The caller, its last holder, lets mutex i go.
@@ -95,8 +93,9 @@ fn release(s: &mut Image, i: usize)
     let c = numbers::caller_of(s);
     mutexes::set_hold(s, i, 0, 0);
     walk::walk_from(s, c);
-    let w = moves::first_in(s, Mutexes::FIRST + i);
-    hand_to(s, i, w);
+    if let Some(w) = moves::first_in(s, Mutexes::FIRST + i) {
+        hand_to(s, i, w);
+    }
 }
 
 // Whether the caller holds mutex i.

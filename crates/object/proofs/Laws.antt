@@ -2,11 +2,12 @@
 use mathlib.Core.Path.{◌≡◌, refl, sym, ◌∙◌}
 use mathlib.Core.Bool.{Bool, true, false, ◌&&◌}
 use Prim.Native.Nat.{ℕ, ◌-◌, ◌≤◌, ◌<◌}
+use native.Mathlib.Omega.{arith}
 use lib.Dec.{eqb}
 use lib.ListN.{length}
-use borrow.Author.Tests.{lt-ltb, le-ltb, eq-eqb, ne_eqb}
+use borrow.Author.Tests.{lt-ltb, le-ltb, ne_eqb}
 use Rattle.rules.specs.Sizes.{task_count, given, aborted, done, bad_value, no_waiter, still_needed}
-use Rattle.rules.specs.Table.{Table, Asked, task_of, first_in, with_task, with_state, with_outcome, with_asked}
+use Rattle.rules.specs.Table.{Table, Asked, task_of, first_in, written, with_task, with_state, with_outcome, with_asked}
 use Rattle.rules.specs.declared.Task.{Task}
 use Rattle.rules.specs.Family.{Family, place_of, waiters_of}
 use Rattle.rules.specs.Time.{caller_of}
@@ -43,18 +44,22 @@ module _ (t : Table) {i : ℕ} (caller : i ≡ caller_of t) where
         let w = d ∙ then_stored i t l size (with_state state object) k marked e in
         rw (← caller) (settled-put i (with_asked a (with_state state object k)) t l size asked (f ∙ then_stored i t l size (with_asked a) (with_state state object k) stored w) q place (limited-work limit t (task_of t i)))
 
--- ---- abort and delete, of number o, where v stands first in its queue q
+-- ---- abort and delete, of number o, whose waiters stand in queue q
 
-module _ (f : Family) (o : ℕ) (t : Table) {q v : ℕ} (place : q ≡ waiters_of f o) (first : v ≡ first_in q t) where
-  pub no-waiter : v ≡ 0 → no_waiter ≡ abort_answer (waiters_of f o) t
-  no-waiter e = rw (← place, ← first, eq-eqb _ _ e)
+module _ (f : Family) (o : ℕ) (t : Table) {q : ℕ} (place : q ≡ waiters_of f o) where
+  pub no-waiter : 0 ≡ first_in q t → no_waiter ≡ abort_answer (waiters_of f o) t
+  no-waiter none = rw (← place, ← none)
 
-  pub a-waiter : (v ≡ 0 → ⊥) → done ≡ abort_answer (waiters_of f o) t
-  a-waiter d = rw (← place, ← first, ne_eqb _ _ d)
+  -- task w stands first
+  module _ (w : ℕ) (first : written w ≡ first_in q t) where
+    pub a-waiter : done ≡ abort_answer (waiters_of f o) t
+    a-waiter = rw (← place, ← first, ne_eqb (written w) 0 (λ z. omega (arith, z)))
 
-  pub aborts : {u : Table} → u ≡ ended aborted (v - 1) t → u ≡ object_abort f o t
-  unfolding object_abort abort
-  aborts e = rw (← place, ← first) e
+    pub aborts : {u : Table} → u ≡ ended aborted w t → u ≡ object_abort f o t
+    unfolding object_abort abort
+    aborts e =
+        let it : w ≡ first_in q t - 1 = omega (arith, first) in
+        rw (← place, ← it) e
 
 module _ (f : Family) (o : ℕ) (t : Table) {q h : ℕ} (place : q ≡ waiters_of f o) (holder : h ≡ f.holder t o) where
   -- its waiters are let go, it goes, and the chain from its holder moves

@@ -7,7 +7,8 @@ use table::layout::{self, Image};
 use table::{channels, groups, messages, mutexes, semaphores};
 
 pub trait Object: Kind {
-    // The task that holds number i, where the chain begins that moves; one past the last task where none does.
+    // The task that holds number i, where the chain begins that moves; one past the last task where none does, as
+    // `chain::holder_of` has it. No body here for the kinds that nobody holds: that nobody does is a fact of each family.
     fn get_holder(s: &Image, i: usize) -> usize
         requires { i < Self.family.count }
         ensures { result ≡ Self.family.holder (view s.now) i };
@@ -24,7 +25,7 @@ impl Object for Semaphores {
     }
 
     fn clear(s: &mut Image, i: usize) {
-        semaphores::store(s, i, rules::Semaphore { used: 0, count: 0 });
+        semaphores::store(s, i, rules::Semaphore::default());
     }
 }
 
@@ -34,15 +35,7 @@ impl Object for Mutexes {
     }
 
     fn clear(s: &mut Image, i: usize) {
-        mutexes::store(
-            s,
-            i,
-            rules::Mutex {
-                used: 0,
-                holder: 0,
-                nesting: 0,
-            },
-        );
+        mutexes::store(s, i, rules::Mutex::default());
     }
 }
 
@@ -52,7 +45,7 @@ impl Object for Groups {
     }
 
     fn clear(s: &mut Image, i: usize) {
-        groups::store(s, i, rules::Group { used: 0, flags: 0 });
+        groups::store(s, i, rules::Group::default());
     }
 }
 
@@ -64,14 +57,6 @@ impl Object for Channels {
 
     fn clear(s: &mut Image, i: usize) {
         messages::clear(s, i);
-        channels::store(
-            s,
-            i,
-            rules::Channel {
-                used: 0,
-                capacity: 0,
-                held: 0,
-            },
-        );
+        channels::store(s, i, rules::Channel::default());
     }
 }

@@ -4,7 +4,7 @@
 ghost use Rattle.std.specs.Prelude.{◌≡◌, ℕ, ◌<◌, IfOk};
 ghost use Rattle.rules.specs.Sizes.{task_count, done, blocks};
 ghost use Rattle.rules.specs.Table.{task_of, with_task};
-ghost use Rattle.rules.specs.Move.{chosen};
+ghost use Rattle.rules.specs.Move.{chosen, walk};
 ghost use Rattle.rules.specs.Object.{on_one, object_create_answer, wait_answer_on, has_waiter, block_answer, limited, blocked, waits, taken, object_abort_answer, object_abort, object_delete_answer, object_delete};
 ghost use Rattle.table.specs.Image.{view};
 ghost use Rattle.service.specs.Answers.{number_of, answer_after};
@@ -39,6 +39,7 @@ pub fn in_use<K: Kind>(s: &Image, i: u32) -> Result<usize, Refusal>
     Ok(j)
 }
 
+// What a new object is, each kind stores itself: its clause says it.
 pub fn may_create<K: Kind>(s: &Image, i: u32) -> Result<usize, Refusal>
     ensures answers { answer_after result done ≡ object_create_answer K.family i (view s.now) }
     ensures within { IfOk result (λ j. (j ≡ i) × (j < K.family.count)) }
@@ -53,7 +54,8 @@ pub fn may_create<K: Kind>(s: &Image, i: u32) -> Result<usize, Refusal>
     Ok(j)
 }
 
-// As far as a wait is every kind's; the kind is asked then what it has to take.
+// As far as a wait is every kind's; the kind is asked then what it has to take. Each kind's `wait` is this and its own `take`: one over the kinds would
+// need a trait that says of each what it takes, for two lines. The words of a call stay apart, as they come.
 pub fn may_wait<K: Kind>(s: &Image, i: u32, block: u32) -> Result<usize, Refusal>
     ensures answers { (n : ℕ) → answer_after result n ≡ wait_answer_on K.family i block n (view s.now) }
     ensures within { IfOk result (λ j. (j ≡ i) × (j < K.family.count)) }
@@ -94,7 +96,8 @@ fn set_limit(s: &mut Image, i: usize, limit: u32)
     tasks::set_mark(s, i, 1, due);
 }
 
-// The caller leaves the able queue and goes behind its equals in the object's queue; what it asks of flags stands in its record.
+// The caller leaves the able queue and goes behind its equals in the object's queue; what it asks of flags stands in its record. It takes the
+// numbers and not the kind: it is large, and would stand there four times.
 pub fn block_on(s: &mut Image, state: u8, object: u8, limit: u32, asked: Asked)
     ensures { view s.new ≡ blocked state object limit (asked_in asked) (view s.old) }
 {
@@ -110,7 +113,7 @@ pub fn block_on(s: &mut Image, state: u8, object: u8, limit: u32, asked: Asked)
 }
 
 // Whether a wait for an object in use that has nothing to take may block.
-fn may_block(s: &Image, block: u32) -> Result<(), Refusal>
+pub fn block_answer(s: &Image, block: u32) -> Result<(), Refusal>
     ensures { answer_after result blocks ≡ block_answer block (view s.now) }
 {
     if block == 0 {
@@ -122,17 +125,34 @@ fn may_block(s: &Image, block: u32) -> Result<(), Refusal>
     Ok(())
 }
 
-// The wait that finds nothing to take. Where it blocks, the chain from the object's holder moves.
-pub fn wait_for<K: Object>(s: &mut Image, i: usize, block: u32, limit: u32, asked: Asked) -> Answer
-    requires { i < K.family.count }
-    ensures { Served (block_answer block (view s.old)) (chosen (waits K.family i limit (asked_in asked) (view s.old))) (number_of result) s.old s.new }
+// The wait that finds nothing to take, of any state and number. Where it blocks, the chain from the holder moves. Within its callers, as seven numbers do
+// not fit the registers.
+#[inline(always)]
+pub fn wait_for(
+    s: &mut Image,
+    state: u8,
+    object: u8,
+    holder: usize,
+    block: u32,
+    limit: u32,
+    asked: Asked,
+) -> Answer
+    ensures { Served (block_answer block (view s.old)) (chosen (walk holder (blocked state object limit (asked_in asked) (view s.old)))) (number_of result) s.old s.new }
 {
-    may_block(s, block)?;
-    let holder = K::get_holder(s, i);
-    block_on(s, K::STATE, i as u8, limit, asked);
+    block_answer(s, block)?;
+    block_on(s, state, object, limit, asked);
     walk::walk_from(s, holder);
     moves::choose(s);
     Ok(Done::Waits)
+}
+
+// The same for number i of a kind.
+pub fn wait_on<K: Object>(s: &mut Image, i: usize, block: u32, limit: u32, asked: Asked) -> Answer
+    requires { i < K.family.count }
+    ensures { Served (block_answer block (view s.old)) (chosen (waits K.family i limit (asked_in asked) (view s.old))) (number_of result) s.old s.new }
+{
+    let holder = K::get_holder(s, i);
+    wait_for(s, K::STATE, i as u8, holder, block, limit, asked)
 }
 
 // ---- abort and delete
@@ -141,11 +161,10 @@ pub fn abort<K: Kind>(s: &mut Image, i: u32) -> Answer
     ensures { Served (object_abort_answer K.family i (view s.old)) (chosen (object_abort K.family i (view s.old))) (number_of result) s.old s.new }
 {
     let j = in_use::<K>(s, i)?;
-    let v = moves::first_in(s, K::FIRST + j);
-    if v == 0 {
+    let Some(w) = moves::first_in(s, K::FIRST + j) else {
         return Err(Refusal::NoWaiter);
-    }
-    ending::end_wait(s, ending::ABORTED, v as usize - 1);
+    };
+    ending::end_wait(s, ending::ABORTED, w);
     moves::choose(s);
     Ok(Done::Now)
 }
@@ -153,7 +172,7 @@ pub fn abort<K: Kind>(s: &mut Image, i: u32) -> Answer
 fn has_waiter(s: &Image, q: usize) -> bool
     ensures { result ≡ has_waiter q (view s.now) }
 {
-    moves::first_in(s, q) != 0
+    moves::first_in(s, q).is_some()
 }
 
 fn may_delete<K: Kind>(s: &Image, i: u32, force: u32) -> Result<usize, Refusal>

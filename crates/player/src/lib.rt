@@ -51,7 +51,7 @@ pub struct Part {
     pub ended: bool,
 }
 
-// One call from the start of `tape`, its line at `end` of `out`.
+// One call from the start of `tape`, its line at `end` of `out`. Buffer and place are two, as in `tape::write_line`.
 fn play_one(image: &mut Image, tape: &[u8], out: &mut [u8], end: usize) -> Result<Went, Halt>
     requires { end ≤ length out.old }
     ensures { Turned image.old tape.now out.old end result image.new out.new }
@@ -61,6 +61,7 @@ fn play_one(image: &mut Image, tape: &[u8], out: &mut [u8], end: usize) -> Resul
     }
     let whole = tape::read_call(tape)?;
     let told = calls::serve(image, whole.call, whole.interrupt);
+    // The answer is in the lower 16 bits.
     let answer = (told % 65536) as u8;
     let runs = table::numbers::get_running(image);
     Ok(Went {

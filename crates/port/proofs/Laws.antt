@@ -1,11 +1,12 @@
 -- What each way through the port gives.
 use mathlib.Core.Path.{◌≡◌, refl, sym, ap, subst, ◌∙◌}
 use mathlib.Core.Bool.{Bool, true, false, cond, not, ◌&&◌, true≢false}
-use mathlib.Core.List.{List}
+use mathlib.Core.List.{List, ◌++◌, append-nil}
 use mathlib.Core.Logic.{◌⊎◌, inl, inr}
 use Prim.Native.Nat.{ℕ}
 use native.Mathlib.Omega.{arith}
-use lib.ListN.{length}
+use lib.ListN.{length, drop}
+use lib.Seq.{drop-length}
 use borrow.Author.Tests.{eq-eqb, ne_eqb}
 use Rattle.rules.specs.Sizes.{done, beyond_range, by_interrupt, not_sound}
 use Rattle.rules.specs.Table.{Table, fresh_table}
@@ -22,6 +23,10 @@ use Rattle.rules.specs.Tape.{Bytes}
 use Rattle.table.specs.Written.{view-image, one_image}
 use Rattle.service.specs.Told.{Told, answer_in, further_in}
 use Rattle.port.specs.Step.{plainly, bytes_after, Gives, Freshened}
+
+-- What comes back of an image that was lent whole is what it was left as.
+pub back_whole : {n : ℕ} (l : List ℕ) → length l ≡ n → (m : List ℕ) → m ++ drop n l ≡ m
+back_whole l h m = ap (λ (k : ℕ). m ++ drop k l) (sym h) ∙ ap (λ (z : List ℕ). m ++ z) (drop-length l) ∙ append-nil m
 
 -- ---- what is given
 

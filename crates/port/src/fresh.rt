@@ -3,7 +3,7 @@ ghost use Rattle.port.specs.Step.{Freshened};
 
 use crate::NOT_SOUND;
 
-// Any bytes become the image of the fresh table.
+// Any bytes become the image of the fresh table. The answer is C's number.
 pub fn ntk_fresh(image: &mut [u8]) -> u32
     ensures { Freshened image.old result image.new }
 {

@@ -37,6 +37,7 @@ fn outcome(res: u32, runs: u8) -> u64
     res as u64 + runs as u64 * 4294967296
 }
 
+// A function and no From: not every number is an outcome.
 fn split(all: u64) -> NtkOutcome
     ensures { (result.answer ≡ answer_in (result_in all)) × (result.runs ≡ runs_in all) × (result.further ≡ further_in (result_in all)) }
 {
@@ -55,7 +56,7 @@ fn not_sound() -> u64
     outcome(NOT_SOUND, 0)
 }
 
-// The answer of a kind that the list lacks, or that an interrupt may not make.
+// The answer of a kind that the list lacks, or that an interrupt may not make: C's number, as `NtkOutcome` has it.
 fn not_let_in(interrupt: bool) -> u32
     ensures { result ≡ cond interrupt by_interrupt beyond_range }
 {

@@ -1,4 +1,5 @@
-// Reading a field of the table, for the port, a debugger and the port's tests. Every input is taken. The fields go by number, since C asks by number.
+// Reading a field of the table, for the port, a debugger and the port's tests. Every input is taken. The fields go by
+// number, since C asks by a field's number and a record's.
 ghost use Rattle.std.specs.Prelude.{◌≡◌};
 ghost use Rattle.std.specs.Option.{unwrap_or};
 ghost use Rattle.table.specs.Image.{view};
@@ -15,6 +16,7 @@ const SLOTS: u32 = 57 * 32;
 // The messages of all channels.
 const MESSAGES: u32 = 16 * 32;
 
+// A function for each part of the list: its range and its clause are its own.
 #[tactic(auto, unfolding(crate::specs::Field::shown_in))]
 fn task_field(field: u32, number: u32, s: &Image) -> Option<u64>
     ensures { unwrap_or result no_field ≡ shown_in task_fields field number (view s.now) }

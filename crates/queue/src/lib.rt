@@ -1,6 +1,7 @@
 // Ordered queues in place, on slices of any length. A slot is a byte: 0 is free, and v holds the id v - 1. The queue is packed to
 // the front, in the order of the keys that the caller lends (a key for each id, the smaller first), and among equals by arrival.
-// No public function asks anything of its caller; each refusal leaves the slots as they came.
+// No public function asks anything of its caller; each refusal leaves the slots as they came. The slots are bytes that the caller keeps, C among them,
+// so one that is lent, taken or given back is its byte and no Option. Slots and keys stay two slices: C lends two, and the table two parts of one.
 #![tactic(auto)]
 
 ghost use Rattle.std.specs.Prelude.{◌≡◌, length, get_or, drop, ◌+◌, ◌<◌};

@@ -64,7 +64,8 @@ fn push_nine(b: &mut [u8], v: u8) -> u8
     b8
 }
 
-// The first of nine slots goes, and the others move one nearer. Answers the last, which stays where it was too.
+// The first of nine slots goes, and the others move one nearer. Answers the last, which stays where it was too. It moves
+// the other way, so no constant makes it of `push_nine`.
 fn pull_nine(b: &mut [u8]) -> u8
     requires { length b.old ≡ 9 }
     ensures { (result ≡ get_or b.old 8 0) × (b.new ≡ take 8 (drop 1 b.old) ++ get_or b.old 8 0 ∷ []) }

@@ -4,7 +4,7 @@ ghost use Rattle.std.specs.Prelude.{◌≡◌, length, ◌+◌, ◌≤◌, ◌<�
 ghost use Rattle.queue.specs.Slots.{first_at, same, place_from, limit};
 ghost use Rattle.queue.specs.Slide.{lifted, slid, slid_within, packed_at};
 
-// The first slot that holds v, or the length.
+// The first slot that holds v, or the length. No Option here, as `find` has it: a place past the end is what `slide` and the callers take as it comes.
 pub fn slot_of(ids: &[u8], v: usize) -> usize
     ensures { result ≡ first_at (same v) ids.now }
 {
@@ -32,7 +32,7 @@ pub fn find_packed(ids: &[u8], id: u8) -> usize
     ids.len()
 }
 
-// Where an id with this key goes before its equals, or behind them.
+// Where an id with this key goes before its equals, or behind them. `ahead` says before; it is a bool, as the definitions (`limit`, `entered`) have it.
 pub fn place_at(ids: &[u8], keys: &[u8], key: u8, ahead: bool) -> usize
     ensures { result ≡ place_from keys.now (limit ahead key) ids.now }
 {

@@ -159,9 +159,7 @@ fn wrapping_mark(output: Output) -> Output {
 }
 
 // From byte 7 on, 251 waits for mutex 0 that do not block: their other bytes are zero.
-fn write_waits(tape: &mut [u8])
-    requires { length tape.old ≡ 1764 }
-{
+fn write_waits(tape: &mut [u8; 1764]) {
     for n in 0..251 {
         tape[7 * n + 7] = 34;
     }

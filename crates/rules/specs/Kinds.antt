@@ -93,14 +93,15 @@ is_interrupt kind = leb interrupt_bit kind
 abbrev pub plain_kind : ℕ → ℕ
 plain_kind kind = cond (is_interrupt kind) (kind - interrupt_bit) kind
 
--- The call of the kind k with these numbers, or that the list lacks k. "The kind is a byte as on the tape, numbers have 32 bits; those a
--- kind does not use are not looked at."
+-- A reading of a call, and of none.
 abbrev pub says_call : Call → Bool → Reading
 says_call c interrupt = record { call = Some c; interrupt = interrupt }
 
 abbrev pub says_none : Bool → Reading
 says_none interrupt = record { call = None; interrupt = interrupt }
 
+-- The call of the kind k with these numbers, or that the list lacks k. "The kind is a byte as on the tape, numbers have 32 bits; those a
+-- kind does not use are not looked at."
 unfoldable pub of_kind : ℕ → List ℕ → Bool → Reading
 of_kind k numbers interrupt = told_of k (λ r. says_call (r.call (λ i. get_or numbers i 0)) interrupt) (says_none interrupt)
 

@@ -3,7 +3,7 @@
 
 // A task. `object` is the number of the object that it waits for, and `due` its due mark; each is 0 where there is none. `mask`, `test` and
 // `consume` are what it asks of the flags that it waits for, 0 where it waits for none. `message` is the last message that it was given, 0 where
-// it has had none.
+// it has had none. The fields are the numbers of the image: one that is not sound may hold any, so none of them is a bool, an Option or an enum.
 #[derive(Clone, Copy, Default)]
 pub struct Task {
     pub used: u8,
@@ -90,7 +90,8 @@ pub enum Call {
     ChannelFlush(u32),
 }
 
-// What a kind byte and its numbers say: the call, none where the list lacks the kind, and whether an interrupt made it.
+// What a kind byte and its numbers say: the call, none where the list lacks the kind, and whether an interrupt made it, which is no
+// flag of the call: either holds with any.
 #[derive(Clone, Copy)]
 pub struct Reading {
     pub call: Option<Call>,

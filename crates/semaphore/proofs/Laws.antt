@@ -2,21 +2,24 @@
 use mathlib.Core.Path.{◌≡◌}
 use mathlib.Core.Bool.{cond}
 use Prim.Native.Nat.{ℕ, ◌+◌, ◌-◌, ◌<◌}
+use native.Mathlib.Omega.{arith}
 use lib.Dec.{leb}
-use borrow.Author.Tests.{eq-eqb, ne_eqb, lt-leb}
+use borrow.Author.Tests.{ne_eqb, lt-leb}
 use Rattle.rules.specs.Sizes.{most_count, given, done, count_full}
-use Rattle.rules.specs.Table.{Table, semaphore_of, semaphore_queue, first_in}
+use Rattle.rules.specs.Table.{Table, semaphore_of, semaphore_queue, first_in, written}
 use Rattle.rules.specs.Move.{ended}
 use Rattle.rules.specs.Semaphore.{with_count_of, post}
 
-module _ (i : ℕ) (t : Table) {w : ℕ} {u : Table} (first : w ≡ first_in (semaphore_queue i) t) where
-  pub post-counts : {n : ℕ} → n ≡ (semaphore_of t i).count → w ≡ 0 → u ≡ with_count_of i (n + 1) t → u ≡ post i t
+module _ (i : ℕ) (t : Table) {u : Table} where
+  pub post-counts : {n : ℕ} → n ≡ (semaphore_of t i).count → 0 ≡ first_in (semaphore_queue i) t → u ≡ with_count_of i (n + 1) t → u ≡ post i t
   unfolding post
-  post-counts count e made = rw (← count, ← first, eq-eqb _ _ e) made
+  post-counts count none made = rw (← count, ← none) made
 
-  pub post-gives : (w ≡ 0 → ⊥) → u ≡ ended given (w - 1) t → u ≡ post i t
+  pub post-gives : (w : ℕ) → written w ≡ first_in (semaphore_queue i) t → u ≡ ended given w t → u ≡ post i t
   unfolding post
-  post-gives d made = rw (← first, ne_eqb _ _ d) made
+  post-gives w first made =
+      let it : first_in (semaphore_queue i) t - 1 ≡ w = omega (arith, first) in
+      rw (it, ne_eqb (first_in (semaphore_queue i) t) 0 (λ z. omega (arith, first, z))) made
 
 -- a count that can go no further, and one that can
 module _ (i : ℕ) (t : Table) {n : ℕ} (count : n ≡ (semaphore_of t i).count) where

@@ -34,7 +34,7 @@ fn take(s: &mut Image, i: usize, block: u32, limit: u32) -> Answer
 {
     let count = semaphores::get_count(s, i);
     if count == 0 {
-        return object::wait_for::<Semaphores>(s, i, block, limit, Asked::NOTHING);
+        return object::wait_on::<Semaphores>(s, i, block, limit, Asked::NOTHING);
     }
     semaphores::set_count(s, i, count - 1);
     object::take_now(s);
@@ -57,11 +57,9 @@ pub fn post(s: &mut Image, i: u32) -> Answer
     if count == u32::MAX {
         return Err(Refusal::CountFull);
     }
-    let v = moves::first_in(s, Semaphores::FIRST + j);
-    if v == 0 {
-        semaphores::set_count(s, j, count + 1);
-    } else {
-        ending::end_wait(s, ending::GIVEN, v as usize - 1);
+    match moves::first_in(s, Semaphores::FIRST + j) {
+        None => semaphores::set_count(s, j, count + 1),
+        Some(w) => ending::end_wait(s, ending::GIVEN, w),
     }
     moves::choose(s);
     Ok(Done::Now)

@@ -5,7 +5,7 @@ use Rattle.rules.specs.Table.{Table}
 use Rattle.rules.specs.Step.{changes}
 use Rattle.rules.specs.Tape.{Bytes}
 use Rattle.table.specs.Image.{Image, view}
-use Rattle.service.specs.Answers.{refusal_number, refusal-keeps}
+use Rattle.service.specs.Answers.{refusal_number}
 use Rattle.service.specs.declared.answers.Refusal.{Refusal}
 use Rattle.service.specs.Served.{Served, determined}
 use Rattle.service.specs.Serving.{refused, served}

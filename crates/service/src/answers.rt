@@ -34,7 +34,7 @@ pub enum Refusal {
 
 pub type Answer = Result<Done, Refusal>;
 
-// The number of the paper.
+// The number of the paper. A function and no From: neither a Result nor a number is a type of this crate.
 pub fn number(answer: Answer) -> u8
     ensures { result ≡ number_of answer }
 {

@@ -75,10 +75,9 @@ pub fn end_all(s: &mut Image, outcome: u8, q: usize)
     ensures { view s.new ≡ ended_all task_count outcome q (view s.old) }
 {
     for _ in 0..layout::TASKS {
-        let v = moves::first_in(s, q);
-        if v == 0 {
+        let Some(w) = moves::first_in(s, q) else {
             return;
-        }
-        end_wait(s, outcome, v as usize - 1);
+        };
+        end_wait(s, outcome, w);
     }
 }

@@ -9,7 +9,7 @@ use crate::every::every;
 use table::layout;
 use table::layout::Image;
 
-// Every set of 32 flags is in range.
+// Every set of 32 flags is in range. The fields are its own, so each kind has its test.
 fn is_right(s: &Image, i: usize) -> bool
     requires { i < group_count }
     ensures { result ≡ is_sound_group (group_of (view s.now) i) }

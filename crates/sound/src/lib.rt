@@ -49,7 +49,7 @@ fn is_run_right(s: &Image) -> bool
     let depth = table::numbers::get_depth(s);
     let v = table::numbers::get_running(s);
     if depth == 0 {
-        let front = table::moves::first_in(s, 0);
+        let front = table::moves::slot_in(s, table::layout::ABLE_QUEUE, 0);
         return (v <= 32) & (v == front);
     }
     may_run(s, v)

@@ -89,7 +89,7 @@ fn free_at(s: &Image, q: usize, j: usize) -> u8
     u8::from(moves::slot_in(s, q, j) == 0)
 }
 
-// The free slots of the able queue.
+// The free slots of the able queue, counted in a byte as in `free_in_seven`.
 fn free_in_able(s: &Image) -> u8
     ensures { result ≡ count 0 (queue_of (view s.now) able_queue) }
 {

@@ -9,7 +9,7 @@ use crate::every::every;
 use table::layout;
 use table::layout::Image;
 
-// Every count of 32 bits is in range.
+// Every count of 32 bits is in range. The fields are its own, so each kind has its test.
 fn is_right(s: &Image, i: usize) -> bool
     requires { i < semaphore_count }
     ensures { result ≡ is_sound_semaphore (semaphore_of (view s.now) i) }

@@ -55,7 +55,8 @@ fn walk_queue(s: &Image, spots: &mut Spots, q: usize) -> Option<usize>
     Some(layout::SLOTS)
 }
 
-// Whether the object of queue q is in use and has nothing to take; the able queue has none, and a group is only asked for its use.
+// Whether the object of queue q is in use and has nothing to take; the able queue has none, and a group is only asked for its use. Ifs and no match:
+// each range ends where the next begins, and so each bound stands once.
 fn is_awaited(s: &Image, q: usize) -> bool
     requires { q < queue_count }
     ensures { result ≡ is_awaited (view s.now) q }
@@ -83,7 +84,7 @@ fn pass_queue(s: &Image, spots: &mut Spots, q: usize) -> Option<usize>
     requires { q < queue_count }
     ensures { QueuePassed (view s.now) q spots.old result spots.new }
 {
-    if moves::first_in(s, q) == 0 {
+    if moves::slot_in(s, q, 0) == 0 {
         return Some(0);
     }
     if !is_awaited(s, q) {
@@ -99,7 +100,7 @@ fn next_front(s: &Image, q: usize) -> Option<usize>
     ensures there { IfSome result (λ r. r < queue_count) }
 {
     for at in q..layout::QUEUES {
-        if 0 < moves::first_in(s, at) {
+        if moves::slot_in(s, at, 0) != 0 {
             return Some(at);
         }
     }

@@ -71,6 +71,7 @@ fn write_whole<C: Clock, W: Write>(clock: &C, to: &mut W, buf: &[u8]) -> Result<
     ensures { OnOk result (Appends (W.contents to.old) (W.contents to.new) buf.now) }
 {
     let mut rest = buf;
+    // A `while`: each write says how much is left.
     while !rest.is_empty() {
         let put = write_some(clock, to, rest)?;
         if put == 0 {

@@ -1,5 +1,6 @@
 pub mod kinds
 pub mod Beyond
+pub mod Byte
 pub mod Image
 pub mod Queues
 pub mod Messages

@@ -1,5 +1,5 @@
-// The fields in the image of a message queue, called a channel, since a queue is a row of tasks: each is read and stored alone, and so is each
-// slot of its row of messages. `messages` has the messages as a whole.
+// The fields in the image of a message queue, called a channel, since a queue is a row of tasks: each is read and stored alone, by a function that names its
+// column, as in `tasks`, and so is each slot of its row of messages. `messages` has the messages as a whole.
 #![tactic(auto, using(crate::specs::records::Channel::read), unfolding(crate::specs::kinds::Channel::made))]
 
 ghost use Rattle.std.specs.Prelude.{◌≡◌, ◌<◌, get_or, set};

@@ -170,7 +170,7 @@ impl Kind for Channels {
     ghost beyond = { no_channel_beyond };
 }
 
-// The same of every number, 0 where there is no such number: a service may ask before it knows the range.
+// The same of every number, 0 where there is no such number, as the rules have it: what a task waits for comes out of the bytes.
 pub fn used_at<K: Kind>(s: &Image, i: usize) -> u8
     ensures { result ≡ K.family.used (view s.now) i }
 {

@@ -1,4 +1,4 @@
-// A group's fields in the image: each is read and stored alone.
+// A group's fields in the image: each is read and stored alone, by a function that names its column, as in `tasks`.
 #![tactic(auto, using(crate::specs::records::Group::read), unfolding(crate::specs::kinds::Group::made))]
 
 ghost use Rattle.std.specs.Prelude.{◌≡◌, ◌<◌};

@@ -1,5 +1,6 @@
 // Where things stand in the image: each column begins behind the one before. docs/IMAGE.md has the reasons. A column for each field and no record
-// for each task, since C keeps these bytes and loads them again.
+// for each task, since C keeps these bytes and loads them again. Numbers of tasks, objects, queues and slots are plain ones: they come from C, from bytes or
+// from loops and go into offsets, so the clauses say that they are below these.
 
 // How many there are of each.
 pub const TASKS: usize = 32;

@@ -15,7 +15,7 @@ pub const LEVELS: u8 = 64;
 
 const TOP: u64 = 1 << 63;
 
-// The bit of a level, 0 where it is none.
+// The bit of a level; 0 where it is none, which changes no word.
 pub fn bit_of(l: u8) -> u64
     ensures { result ≡ bit_of l }
 {
@@ -37,7 +37,7 @@ pub fn without_level(word: u64, l: u8) -> u64
     word ^ (word & bit_of(l))
 }
 
-// The first level that has an able task, LEVELS where none has.
+// The first level that has an able task, LEVELS where none has: it is the count of leading zeros, one instruction, and no Option.
 pub fn first_level(s: &Image) -> u32
     ensures { result ≡ first_level (view s.now).ready }
 {
@@ -85,6 +85,7 @@ fn has_equal(s: &Image, i: usize, at: usize) -> bool
     is_at(s, l, at - 1)
 }
 
+// `add_level` is the same with the other word: three calls each, which a closure would make longer.
 fn clear_level(s: &mut Image, i: usize)
     requires { i < task_count }
     ensures { view s.new ≡ with_ready (without_level (task_of (view s.old) i).work (view s.old).ready) (view s.old) }
@@ -95,6 +96,7 @@ fn clear_level(s: &mut Image, i: usize)
 }
 
 // Before task i leaves the able queue, where it stands in slot `at`: its level's bit is cleared, unless a neighbour has its level.
+// The place comes from one search and holds until the next store, so it is handed on with a clause and in no struct.
 pub fn drop_at(s: &mut Image, i: usize, at: usize)
     requires { (i < task_count) × (at ≤ slot_count) × (at ≡ place_in i (queue_of (view s.old) able_queue)) }
     ensures { view s.new ≡ with_ready (ready_without i (view s.old)) (view s.old) }

@@ -18,7 +18,7 @@ pub fn count_in(s: &Image, c: usize) -> usize
     (channels::get_held(s, c) as usize).min(layout::MOST_MESSAGES)
 }
 
-// The next one, 0 where there is none.
+// The next one; 0 where there is none, as the rules have it: who calls it has asked for that first.
 pub fn first_of(s: &Image, c: usize) -> u32
     requires { c < channel_count }
     ensures { result ≡ get_or (present (view s.now) c) 0 0 }

@@ -2,7 +2,8 @@
 // `settle` where its place may be another, `leave_queue` or `join_queue` where it is known to stand nowhere now or before; `Settled` says when
 // that is the `put` of the rules. Where the working priority changes, the task leaves its level with the old one. A record is stored whole where
 // a task is created or deleted. `rotate` is the one other move, and stays within a level. And who runs.
-ghost use Rattle.std.specs.Prelude.{◌≡◌, false, cond, ◌+◌, ◌≤◌, ◌<◌, eqb, get_or};
+// Image, queue and task stay three parameters, since they change apart.
+ghost use Rattle.std.specs.Prelude.{◌≡◌, false, cond, ◌+◌, ◌≤◌, ◌<◌, IfSome, eqb, get_or};
 ghost use Rattle.queue.specs.Slots.{place_of as place_in, place_from, limit, entered, without, moved, replaced};
 ghost use Rattle.queue.specs.Slide.{lifted, packed_at};
 ghost use Rattle.rules.specs.Sizes.{task_count, level_count};
@@ -11,6 +12,7 @@ ghost use Rattle.rules.specs.Family.{place_of};
 ghost use Rattle.rules.specs.Ready.{first_level};
 ghost use Rattle.rules.specs.Move.{leave, join, put, put_work, rotate, chosen};
 ghost use Rattle.table.specs.Image.{slot_count, view};
+ghost use Rattle.table.specs.Byte.{byte_of};
 ghost use Rattle.table.specs.Ready.{reworked_in};
 ghost use Rattle.table.specs.Settled.{settled};
 
@@ -143,7 +145,7 @@ pub fn join_queue(s: &mut Image, q: usize, i: usize)
     enter_queue(s, q, i, false);
 }
 
-// Where task i stands in queue q, with no free slot before it, or SLOTS.
+// Where task i stands in queue q, with no free slot before it, or SLOTS, with which its callers compare it.
 fn packed_in(s: &Image, q: usize, i: usize) -> usize
     requires { (i < task_count) × (q < queue_count) }
     ensures { result ≡ packed_at (i + 1) (queue_of (view s.now) q) }
@@ -305,17 +307,21 @@ pub fn rotate_task(s: &mut Image, i: usize)
     rotate_in(s, i);
 }
 
-// The task in front of queue q: its number plus 1, 0 where the queue is empty or there is none. It is the slot's byte, as C reads it too.
-pub fn first_in(s: &Image, q: usize) -> u8
-    ensures { result ≡ first_in q (view s.now) }
+// The task in front of queue q, None where the queue is empty or there is none.
+pub fn first_in(s: &Image, q: usize) -> Option<usize>
+    ensures front { byte_of result ≡ first_in q (view s.now) }
+    ensures within { IfSome result (λ w. w < 255) }
 {
     if layout::QUEUES <= q {
-        return 0;
+        return None;
     }
-    slot_in(s, q, 0)
+    match slot_in(s, q, 0) {
+        0 => None,
+        v => Some(v as usize - 1),
+    }
 }
 
-// Slot j of queue q, in the same way.
+// Slot j of queue q: the byte as it stands in the image, a task's number plus 1, or 0 for none.
 pub fn slot_in(s: &Image, q: usize, j: usize) -> u8
     requires { (q < queue_count) × (j < slot_count) }
     ensures { result ≡ get_or (queue_of (view s.now) q) j 0 }
@@ -323,14 +329,15 @@ pub fn slot_in(s: &Image, q: usize, j: usize) -> u8
     s[layout::QUEUE + layout::SLOTS * q + j]
 }
 
-// The first able task, its number plus 1: the first level's first is the front of the able queue. 0 where no level has one.
+// The first able task, its number plus 1: the first level's first is the front of the able queue. 0 where no level has one, as
+// `set_running` takes it.
 fn first_ready(s: &Image) -> u8
     ensures { result ≡ cond (eqb (first_level (view s.now).ready) level_count) 0 (first_in able_queue (view s.now)) }
 {
     if levels::first_level(s) == levels::LEVELS as u32 {
         return 0;
     }
-    first_in(s, layout::ABLE_QUEUE)
+    slot_in(s, layout::ABLE_QUEUE, 0)
 }
 
 // At depth 0 the first able task runs.

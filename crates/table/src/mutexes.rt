@@ -1,4 +1,4 @@
-// A mutex's fields in the image: each is read and stored alone.
+// A mutex's fields in the image: each is read and stored alone, by a function that names its column, as in `tasks`.
 #![tactic(auto, using(crate::specs::records::Mutex::read), unfolding(crate::specs::kinds::Mutex::made))]
 
 ghost use Rattle.std.specs.Prelude.{◌≡◌, ◌<◌};

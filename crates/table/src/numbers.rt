@@ -1,4 +1,5 @@
-// The single numbers of the image: tick counter, default quantum, lock depth, who runs, and the word of ready levels.
+// The single numbers of the image: tick counter, default quantum, lock depth, who runs, and the word of ready levels. Each has a function
+// that names its column, as in `tasks`.
 ghost use Rattle.std.specs.Prelude.{◌≡◌, ◌<◌};
 ghost use Rattle.rules.specs.Table.{with_tick, with_default_quantum, with_depth, with_running, with_ready};
 ghost use Rattle.rules.specs.Time.{caller_of};
@@ -50,7 +51,7 @@ pub fn get_running(s: &Image) -> u8
     columns::get(s, layout::RUNNING, 0)
 }
 
-// The running task's number.
+// The running task's number; 0 where none runs, as the rules' `caller_of` has it: a service asks for that first.
 pub fn caller_of(s: &Image) -> usize
     ensures { (result ≡ caller_of (view s.now)) × (result < 255) }
 {

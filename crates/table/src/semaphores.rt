@@ -1,4 +1,4 @@
-// A semaphore's fields in the image: each is read and stored alone.
+// A semaphore's fields in the image: each is read and stored alone, by a function that names its column, as in `tasks`.
 #![tactic(auto, using(crate::specs::records::Semaphore::read), unfolding(crate::specs::kinds::Semaphore::made))]
 
 ghost use Rattle.std.specs.Prelude.{◌≡◌, ◌<◌};

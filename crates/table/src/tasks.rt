@@ -63,7 +63,7 @@ pub fn get_work(s: &Image, i: usize) -> u8
     columns::get(s, layout::WORK, i)
 }
 
-// The same of every number, 0 where it is no task's, as one that a slot of an image which is not sound may hold.
+// The same of every number, 0 where it is no task's, as the rules' `task_of` has it: one that a slot of an image which is not sound may hold.
 pub fn work_at(s: &Image, i: usize) -> u8
     ensures { result ≡ (task_of (view s.now) i).work }
 {

@@ -11,7 +11,7 @@ ghost use Rattle.tape.specs.Line.{Wrote, line_of, line_in, bad_in};
 use kinds::Numbers;
 use rules::Call;
 
-// A call that stands whole at the start of a tape, made by an interrupt or not, with its length in bytes.
+// A call that stands whole at the start of a tape, made by an interrupt or not, either with any call, with its length in bytes.
 #[derive(Clone, Copy)]
 pub struct Whole {
     pub call: Call,
@@ -84,6 +84,7 @@ fn write(out: &mut [u8], at: usize, text: &[u8]) -> usize
     end
 }
 
+// Two digits at most, as `decimal` has it; itoa would write into a buffer of its own.
 fn write_decimal(out: &mut [u8], at: usize, n: u8) -> usize
     requires { at + 2 ≤ length out.old }
     ensures { Wrote at (decimal n) out.old out.new result }

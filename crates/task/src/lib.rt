@@ -36,20 +36,11 @@ fn new_task(base: u8, quantum: u16) -> rules::Task
 {
     rules::Task {
         used: 1,
-        base: base,
+        base,
         work: base,
-        suspend: 0,
-        quantum: quantum,
+        quantum,
         left: quantum,
-        state: tasks::PLAIN,
-        object: 0,
-        marked: 0,
-        due: 0,
-        outcome: 0,
-        mask: 0,
-        test: 0,
-        consume: 0,
-        message: 0,
+        ..rules::Task::default()
     }
 }
 

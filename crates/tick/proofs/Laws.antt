@@ -1,5 +1,5 @@
 -- The tick, case by case.
-use Rattle.std.proofs.Common.{◌≡◌, ℕ, zero, suc, ◌+◌, ◌-◌, ◌<◌, ◌≤◌, Bool, true, false, cond, ◌&&◌, ◌||◌, eqb, length, sym, refl, ap, ◌∙◌, add-one, arith, get_or-set_same, eq-eqb, ne_eqb}
+use Rattle.std.proofs.Common.{◌≡◌, ℕ, zero, suc, ◌+◌, ◌-◌, ◌<◌, ◌≤◌, Bool, true, false, cond, not, ◌&&◌, ◌||◌, eqb, length, sym, refl, ap, ◌∙◌, true≢false, add-one, arith, get_or-set_same, eq-eqb, ne_eqb}
 use Rattle.std.proofs.lemmas.Bool.{and_right, or_parts}
 use Rattle.rules.specs.declared.Task.{Task}
 use Rattle.rules.specs.Sizes.{task_count}
@@ -9,6 +9,18 @@ use Rattle.rules.specs.Time.{caller_of}
 use Rattle.rules.specs.Tick.{turned, is_due, due_ended, due_below}
 use Rattle.laws.specs.queues.Put.{put_out, put-stays, rotate_out, place_same}
 use Rattle.tick.specs.Marks.{is_at, some_at}
+
+-- ---- two tests at once, and a third
+
+pub both_not : (a b p : Bool) → not (a && b) ≡ true → false ≡ a && (b && p)
+both_not false b p e = refl
+both_not true false p e = refl
+both_not true true p e = absurd (true≢false (sym e))
+
+pub both_are : (a b p : Bool) → not (a && b) ≡ false → p ≡ a && (b && p)
+both_are false b p e = absurd (true≢false e)
+both_are true false p e = absurd (true≢false e)
+both_are true true p e = refl
 
 same_all : (t : Table) (a b : Bool) → t ≡ cond a t (cond b t t)
 same_all t true b = refl

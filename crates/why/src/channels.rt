@@ -12,7 +12,7 @@ use table::{channels, layout};
 // The slots of all rows, which are the records of the rules on messages.
 pub const MESSAGES: usize = layout::CHANNELS * layout::MOST_MESSAGES;
 
-// A free channel has zero fields.
+// A free channel has zero fields. They are its own, so each kind has its test.
 fn is_free_right(s: &Image, i: usize) -> bool
     requires { i < channel_count }
     ensures { result ≡ implies (eqb (channel_of (view s.now) i).used 0) (is_no_channel (channel_of (view s.now) i)) }

@@ -29,6 +29,7 @@ pub struct Reason {
 const RULE_END: u32 = 0xC0;
 
 // Whether the record i keeps the rule. The rules go by number, since C is told these numbers: docs/IMAGE.md has the list.
+// Each module tests its part of it, in its own range.
 fn is_kept(s: &Image, rule: u32, i: usize) -> bool
     ensures { result ≡ is_kept rule i (view s.now) }
 {
@@ -81,7 +82,7 @@ pub fn why(s: &Image) -> Option<Reason>
     for rule in 0..RULE_END {
         if let Some(i) = first_at(s, rule) {
             return Some(Reason {
-                rule: rule,
+                rule,
                 number: i as u32,
             });
         }

@@ -9,7 +9,7 @@ ghost use Rattle.why.specs.Tests.{kept_in, object_tests, group_tests};
 use table::layout::Image;
 use table::{groups, mutexes, semaphores};
 
-// A free mutex has zero fields.
+// A free mutex has zero fields. They are its own, so each kind has its test.
 fn is_free_mutex_right(s: &Image, i: usize) -> bool
     requires { i < mutex_count }
     ensures { result ≡ implies (eqb (mutex_of (view s.now) i).used 0) (is_no_mutex (mutex_of (view s.now) i)) }

@@ -35,7 +35,7 @@ fn is_placed(s: &Image, q: usize, i: usize) -> bool
     n == u8::from(place == q)
 }
 
-// The working priority of the task that a slot holds, 0 where it is no task's number.
+// The working priority of the task that a slot holds, 0 where it is no task's number, as the rules have it.
 fn key_of(s: &Image, v: u8) -> u8
     requires { 1 ≤ v }
     ensures { result ≡ key_of (works (view s.now)) v }

@@ -19,7 +19,7 @@ pub fn is_right(s: &Image, rule: u32, i: usize) -> bool
         0xB0 => (numbers::get_tick(s) as u64) < 4294967296,
         0xB1 => depth <= 250,
         0xB2 => v <= 32,
-        0xB3 => (depth != 0) | (v == moves::first_in(s, layout::ABLE_QUEUE)),
+        0xB3 => (depth != 0) | (v == moves::slot_in(s, layout::ABLE_QUEUE, 0)),
         0xB4 => (depth == 0) | sound::may_run(s, v),
         0xB5 => 1 <= numbers::get_default(s),
         0xB6 => (numbers::get_default(s) as u32) <= 65535,

@@ -25,7 +25,7 @@ pub fn is_in_range(s: &Image, rule: u32, i: usize) -> bool
         0x04 => tasks::get_suspend(s, i) <= 250,
         0x05 => (tasks::get_quantum(s, i) as u32) <= 65535,
         0x06 => (tasks::get_left(s, i) as u32) <= 65535,
-        0x07 => tasks::get_state(s, i) <= 5,
+        0x07 => tasks::get_state(s, i) <= tasks::WAITS_MESSAGE,
         0x08 => tasks::get_object(s, i) < objects_in(tasks::get_state(s, i)),
         0x09 => tasks::get_marked(s, i) <= 1,
         0x0A => (tasks::get_marked(s, i) != 0) | (tasks::get_due(s, i) == 0),
@@ -38,7 +38,7 @@ pub fn is_in_range(s: &Image, rule: u32, i: usize) -> bool
     }
 }
 
-// Whether the fields of a wait are 0, and the message that one gave.
+// Whether the fields of a wait are 0, and the message that one gave. Field by field: for `==` the whole record would have to be read together first.
 #[tactic(auto, unfolding(crate::specs::Zeros::is_wait_zero))]
 fn is_wait_zero(s: &Image, i: usize) -> bool
     requires { i < task_count }
@@ -89,10 +89,10 @@ pub fn is_right(s: &Image, rule: u32, i: usize) -> bool
     }
     match rule {
         0x10 => is_free_right(s, i),
-        0x11 => (tasks::get_state(s, i) != 0) | (tasks::get_marked(s, i) == 0),
-        0x12 => (tasks::get_state(s, i) != 1) | (tasks::get_marked(s, i) == 1),
+        0x11 => (tasks::get_state(s, i) != tasks::PLAIN) | (tasks::get_marked(s, i) == 0),
+        0x12 => (tasks::get_state(s, i) != tasks::DELAYED) | (tasks::get_marked(s, i) == 1),
         0x13 => tasks::get_left(s, i) <= tasks::get_quantum(s, i),
-        0x14 => (tasks::get_state(s, i) != 4) | (1 <= tasks::get_mask(s, i)),
+        0x14 => (tasks::get_state(s, i) != tasks::WAITS_FLAGS) | (1 <= tasks::get_mask(s, i)),
         0x15 => (tasks::get_used(s, i) != 1) | (1 <= tasks::get_quantum(s, i)),
         _ => true,
     }

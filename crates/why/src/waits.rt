@@ -24,6 +24,7 @@ fn is_used(s: &Image, i: usize) -> bool
     }
 }
 
+// What there is to take is another field of each kind.
 fn is_empty(s: &Image, o: usize) -> bool
     ensures { result ≡ not (ltb 0 (semaphore_of (view s.now) o).count) }
 {

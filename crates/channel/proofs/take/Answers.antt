@@ -9,7 +9,7 @@ use Rattle.channel.proofs.take.Goals as goal
 pub returns-then-get_held-eq0 : goal.returns-then-get_held-eq0
 unfolding wait
 returns-then-get_held-eq0 c =
-    rw (← c.get_held.ensures, c.if-get_held-eq0.true) c.wait_for.ensures
+    rw (← c.get_held.ensures, c.if-get_held-eq0.true) c.wait_on.ensures
 
 pub returns : goal.returns
 unfolding wait

@@ -12,7 +12,7 @@ returns-then-not-is_met c =
     let a = c.args in
     let x = asked_in a.asked in
     let t = view a.s.now in
-    told (blocks-answer a.i a.limit t x c.get_flags-flags.ensures c.is_met.ensures c.if-not-is_met.true refl) (ap chosen (blocks a.i a.limit t x c.get_flags-flags.ensures c.is_met.ensures c.if-not-is_met.true)) c.wait_for.ensures
+    told (blocks-answer a.i a.limit t x c.get_flags-flags.ensures c.is_met.ensures c.if-not-is_met.true refl) (ap chosen (blocks a.i a.limit t x c.get_flags-flags.ensures c.is_met.ensures c.if-not-is_met.true)) c.wait_on.ensures
 
 pub returns : goal.returns
 returns c =

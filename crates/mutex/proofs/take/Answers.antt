@@ -19,7 +19,7 @@ returns-then-holder-caller c =
     let t = view a.s.now in
     let h = c.get_holder-holder.ensures in
     let k = c.caller_of-caller.ensures.0 in
-    told (blocks-answer a.i t h k c.if-holder-eq0.false c.if-holder-caller.true a.block) (ap chosen (blocks a.i t h k c.if-holder-eq0.false c.if-holder-caller.true a.limit)) c.wait_for.ensures
+    told (blocks-answer a.i t h k c.if-holder-eq0.false c.if-holder-caller.true a.block) (ap chosen (blocks a.i t h k c.if-holder-eq0.false c.if-holder-caller.true a.limit)) c.wait_on.ensures
 
 pub returns-then-n-ge-MOST_NESTED : goal.returns-then-n-ge-MOST_NESTED
 returns-then-n-ge-MOST_NESTED c =

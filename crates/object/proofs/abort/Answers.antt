@@ -14,12 +14,12 @@ unfolding object_abort_answer
 returns-in_err-j g c =
     handed-on c.in_err-j.field-0.0 c.from_residual.result c.from_residual.ensures.1 (c.in_err-j.ensures.answers _)
 
-pub returns-then-v-eq0 : goal.returns-then-v-eq0
+pub returns-in_default : goal.returns-in_default
 unfolding object_abort_answer
-returns-then-v-eq0 g c =
+returns-in_default g c =
     let f = g.K.Kind.family in
     let place : c.FIRST.result + c.in_ok-j.j ≡ waiters_of f c.args.i = omega (arith, g.met.K.Kind.first_is, c.in_ok-j.ensures.within.0) in
-    refused (no-waiter f c.args.i (view c.args.s.now) place c.first_in-v.ensures c.if-v-eq0.true ∙ c.in_ok-j.ensures.answers _) refl
+    refused (no-waiter f c.args.i (view c.args.s.now) place c.in_default.ensures.front ∙ c.in_ok-j.ensures.answers _) refl
 
 pub returns : goal.returns
 unfolding object_abort_answer
@@ -27,5 +27,5 @@ returns g c =
     let f = g.K.Kind.family in
     let t = view c.args.s.now in
     let place : c.FIRST.result + c.in_ok-j.j ≡ waiters_of f c.args.i = omega (arith, g.met.K.Kind.first_is, c.in_ok-j.ensures.within.0) in
-    served (a-waiter f c.args.i t place c.first_in-v.ensures c.if-v-eq0.false ∙ c.in_ok-j.ensures.answers _) refl
-    (c.choose.ensures ∙ ap chosen (aborts f c.args.i t place c.first_in-v.ensures c.end_wait.ensures))
+    served (a-waiter f c.args.i t place c.in-Some.w c.in-Some.ensures.front ∙ c.in_ok-j.ensures.answers _) refl
+    (c.choose.ensures ∙ ap chosen (aborts f c.args.i t place c.in-Some.w c.in-Some.ensures.front c.end_wait.ensures))

@@ -5,7 +5,7 @@ use Rattle.rules.specs.Semaphore.{post_answer, post}
 use Rattle.table.specs.Image.{view}
 use Rattle.service.specs.Serving.{handed-on, refused, served}
 use Rattle.semaphore.proofs.Laws.{full, not-full, post-counts, post-gives}
-use Rattle.semaphore.proofs.post.Goals.{then-v-eq0, else-v-eq0}
+use Rattle.semaphore.proofs.post.Goals.{in-None, in-Some}
 use Rattle.semaphore.proofs.post.Goals as goal
 
 pub returns-in_err-j : goal.returns-in_err-j
@@ -26,9 +26,8 @@ returns c =
     let t = view c.args.s.now in
     let same = c.in_ok-j.ensures.within.0 in
     let count = rw same at c.get_count-count.ensures in
-    let first = rw same at c.first_in-v.ensures in
-    let made : view c.if-v-eq0.s ≡ post i t = elim c.if-v-eq0.branch [
-      | then-v-eq0 w ↦ ap view w.s-is ∙ post-counts i t first count w.if-v-eq0.true (rw same at w.set_count.ensures)
-      | else-v-eq0 w ↦ ap view w.s-is ∙ post-gives i t first w.if-v-eq0.false w.end_wait.ensures
+    let made : view c.match-first_in.s ≡ post i t = elim c.match-first_in.branch [
+      | in-None w ↦ ap view w.s-is ∙ post-counts i t count (rw same at w.in-None.ensures.front) (rw same at w.set_count.ensures)
+      | in-Some w ↦ ap view w.s-is ∙ post-gives i t w.in-Some.w (rw same at w.in-Some.ensures.front) w.end_wait.ensures
     ] in
     served (not-full i t count (omega arith) ∙ c.in_ok-j.ensures.answers _) refl (c.choose.ensures ∙ ap chosen made)

@@ -9,7 +9,7 @@ use Rattle.semaphore.proofs.take.Goals as goal
 pub returns-then-count-eq0 : goal.returns-then-count-eq0
 unfolding wait
 returns-then-count-eq0 c =
-    rw (← c.get_count-count.ensures, c.if-count-eq0.true) c.wait_for.ensures
+    rw (← c.get_count-count.ensures, c.if-count-eq0.true) c.wait_on.ensures
 
 pub returns : goal.returns
 unfolding wait

@@ -7,8 +7,8 @@ use Rattle.table.specs.Image.{view}
 use Rattle.table.specs.Shape.{view-shaped}
 use Rattle.table.proofs.moves.first_in.Goals as goal
 
-pub returns-then-q-ge-QUEUES : goal.returns-then-q-ge-QUEUES
-returns-then-q-ge-QUEUES c =
+pub returns-then-q-ge-QUEUES-clause-front : goal.returns-then-q-ge-QUEUES-clause-front
+returns-then-q-ge-QUEUES-clause-front c =
     let a = c.args in
     let t = view a.s.now in
     let h : length t.queues ≤ a.q = omega (arith, (view-shaped a.s.now (omega arith)).queues) in
