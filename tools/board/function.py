@@ -1,11 +1,11 @@
 """One function of the MIR as one function of C, form by form. Its locals are v0, v1 ..: v0 is the result, then come the parameters."""
 from constants import Constants
+from fields import LOCAL, by_field
 from mir import Unknown, items, name_of, number, record, split, tree, unknown
 from shapes import BOOL, INTEGERS, SLICE, UNIT, c_name, declared
 from values import Values
 
 EXPORTED = "ntk_"   # how the last part of an exported function's name begins; the header declares it
-ZEROS = ("0u", "UINT32_C(0)", "UINT64_C(0)")
 RESULT = {"local": 0, "steps": []}
 RESULT_IS_UNIT = {"Assign": [RESULT, {"Opd": "Unit"}]}
 IDLE = ["Seq", "Skip", "Return", RESULT_IS_UNIT]
@@ -47,10 +47,12 @@ class Function(Values, Constants):
         slices = ["    struct slice v%d = { %sp%d, n%d };" % (i, "(uint8_t *)" * self.is_const(i), i, i)
                   for i in self.given if self.is_lent(i)]
         unread = ["    (void)v%d;" % i for i in self.given if i not in read]
-        own = ["    %s;" % self.own(i) for i in sorted(read) if i not in self.parameters and self.locals[i] != UNIT]
         body = [line if local in read else unread_line for line, local, unread_line, _ in self.lines]
+        body = by_field([line for line in body if line], ["v%d" % i for i in self.parameters])
+        named = set(LOCAL.findall("\n".join(body)))
+        own = ["    %s;" % self.own(i) for i in sorted(read) if i not in self.parameters and self.locals[i] != UNIT and "v%d" % i in named]
         return (["/* %s%s */" % (self.symbol, self.arguments), self.signature(), "{"] + ["    " + one for one in self.statics] + slices + own + unread +
-                ["start:"] * self.restarts + [line for line in body if line] + ["}"])
+                ["start:"] * self.restarts + body + ["}"])
 
     def read(self):
         """The locals that are read by a line which is not left out."""
@@ -121,18 +123,8 @@ class Function(Values, Constants):
     def on_Assign(self, place, value):
         to, local = self.place_to_set(place)
         text = self.rvalue(value, to.c_type)
-        if self.is_zero(value, to):
-            for member, _ in self.types.fields[to.c_type]:
-                self.say("%s.%s = 0;" % (to.text, member), local)
-        elif to.c_type != UNIT:
+        if to.c_type != UNIT:
             self.say(self.setting(to, text), local)
-
-    def is_zero(self, value, to):
-        """A struct of zeros alone. It is set field by field: where it has 32 bytes, as a task has, gcc calls memset for it otherwise."""
-        fields = self.types.fields_of(to.c_type)
-        return bool(fields and name_of(value) == "Aggregate" and not to.text.startswith("*")
-                    and not any(self.types.has_address(to.c_type, *field) for field in fields)
-                    and all(self.operand(given, t) in ZEROS for given, (_, t) in zip(items(value["Aggregate"]), fields)))
 
     def on_If(self, on, yes, no):
         text = self.operand(on, BOOL)

@@ -173,7 +173,7 @@ class Values:
         if fields is None or len(fields) != len(values):
             unknown("aggregate for a", c_type)
         given = [(name, t, self.operand(value, t)) for value, (name, t) in zip(values, fields)]
-        return shape % (c_type, ", ".join(self.field(of, *one) for one in given if one[1] != UNIT))
+        return shape % (c_type, ", ".join(".%s = %s" % (one[0], self.field(of, *one)) for one in given if one[1] != UNIT))
 
     def field(self, owner, name, c_type, text):
         """What a field begins with."""

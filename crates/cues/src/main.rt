@@ -81,12 +81,19 @@ fn say_answer(output: Output, answer: Result<(), Refusal>) -> Output {
     }
 }
 
-fn say_line_up(output: Output, desk: &mut Desk, cue: u8) -> Output {
+// `main` makes its steps by this and by `say_change`, so they promise of the desk what the step does.
+fn say_line_up(output: Output, desk: &mut Desk, cue: u8) -> Output
+    ensures levels { desk.new.levels ≡ desk.old.levels }
+    ensures lined { desk.new.cues ≡ inserted desk.old.levels cue desk.old.cues }
+{
     let begun = output.say(b"cue ").say_number(cue as u64).say(b": ");
     say_answer(begun, desk.line_up(cue))
 }
 
-fn say_change(output: Output, desk: &mut Desk, cue: u8, level: u8) -> Output {
+fn say_change(output: Output, desk: &mut Desk, cue: u8, level: u8) -> Output
+    ensures levels { desk.new.levels ≡ set desk.old.levels cue level }
+    ensures moved { desk.new.cues ≡ moved_in (set desk.old.levels cue level) cue desk.old.cues }
+{
     let begun = output
         .say(b"cue ")
         .say_number(cue as u64)

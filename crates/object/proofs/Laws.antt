@@ -1,6 +1,7 @@
 -- The caller takes an object at once, and its outcome alone changes; or it blocks.
-use mathlib.Core.Path.{◌≡◌, refl, sym, ◌∙◌}
-use mathlib.Core.Bool.{Bool, true, false, ◌&&◌}
+use Rattle.std.specs.Prelude.{List, Result, Ok, Err, IsErrAnd}
+use mathlib.Core.Path.{◌≡◌, refl, sym, ap, ◌∙◌}
+use mathlib.Core.Bool.{Bool, true, false, not, ◌&&◌}
 use Prim.Native.Nat.{ℕ, ◌-◌, ◌≤◌, ◌<◌}
 use native.Mathlib.Omega.{arith}
 use lib.Dec.{eqb}
@@ -12,9 +13,14 @@ use Rattle.rules.specs.declared.Task.{Task}
 use Rattle.rules.specs.Family.{Family, place_of, waiters_of}
 use Rattle.rules.specs.Time.{caller_of}
 use Rattle.rules.specs.Move.{walk, ended}
-use Rattle.rules.specs.Object.{limited, blocked, taken, abort_answer, abort, object_abort, emptied, has_waiter, delete_answer, object_delete}
+use Rattle.rules.specs.Object.{limited, blocked, taken, abort_answer, abort, emptied, has_waiter, delete_answer, object_delete}
 use Rattle.laws.specs.queues.Put.{whichever, put_out, put-stays, place_same}
 use Rattle.table.specs.Settled.{settled, then_stored, settled-put}
+use Rattle.service.specs.Answers.{refusal_number, number_of, refusal-keeps}
+use Rattle.service.specs.Served.{Served}
+use Rattle.service.specs.Serving.{told, refuse_on}
+use Rattle.service.specs.declared.answers.Done.{Done}
+use Rattle.service.specs.declared.answers.Refusal.{Refusal}
 
 -- A time limit leaves the working priority.
 limited-work : (limit : ℕ) (t : Table) (k : Task) → k.work ≡ (limited limit t k).work
@@ -44,22 +50,22 @@ module _ (t : Table) {i : ℕ} (caller : i ≡ caller_of t) where
         let w = d ∙ then_stored i t l size (with_state state object) k marked e in
         rw (← caller) (settled-put i (with_asked a (with_state state object k)) t l size asked (f ∙ then_stored i t l size (with_asked a) (with_state state object k) stored w) q place (limited-work limit t (task_of t i)))
 
--- ---- abort and delete, of number o, whose waiters stand in queue q
+-- ---- abort and delete, of an object whose waiters stand in queue q
 
-module _ (f : Family) (o : ℕ) (t : Table) {q : ℕ} (place : q ≡ waiters_of f o) where
-  pub no-waiter : 0 ≡ first_in q t → no_waiter ≡ abort_answer (waiters_of f o) t
-  no-waiter none = rw (← place, ← none)
+module _ (q : ℕ) (t : Table) where
+  pub no-waiter : 0 ≡ first_in q t → no_waiter ≡ abort_answer q t
+  no-waiter none = rw (← none)
 
   -- task w stands first
   module _ (w : ℕ) (first : written w ≡ first_in q t) where
-    pub a-waiter : done ≡ abort_answer (waiters_of f o) t
-    a-waiter = rw (← place, ← first, ne_eqb (written w) 0 (λ z. omega (arith, z)))
+    pub a-waiter : done ≡ abort_answer q t
+    a-waiter = rw (← first, ne_eqb (written w) 0 (λ z. omega (arith, z)))
 
-    pub aborts : {u : Table} → u ≡ ended aborted w t → u ≡ object_abort f o t
-    unfolding object_abort abort
+    pub aborts : {u : Table} → u ≡ ended aborted w t → u ≡ abort q t
+    unfolding abort
     aborts e =
         let it : w ≡ first_in q t - 1 = omega (arith, first) in
-        rw (← place, ← it) e
+        rw (← it) e
 
 module _ (f : Family) (o : ℕ) (t : Table) {q h : ℕ} (place : q ≡ waiters_of f o) (holder : h ≡ f.holder t o) where
   -- its waiters are let go, it goes, and the chain from its holder moves
@@ -78,3 +84,8 @@ module _ (force q : ℕ) (t : Table) where
 
     pub not-needed : (eqb force 0 && b) ≡ false → done ≡ delete_answer force q t
     not-needed e = rw (le-ltb _ _ few, ← place, ← waiter, e)
+
+-- a service refused by the part that begins it: the refusal is handed on
+pub handed-through : {n n' : ℕ} {a new : Table} {l m : List ℕ} (r : Refusal) (answer : Result Done Refusal) → IsErrAnd answer (λ e. e ≡ r) → n ≡ n' → Served n a (refusal_number r) l m → Served n' new (number_of answer) l m
+handed-through r (Err x) h e s = rw h (told e refl (refuse_on s (sym (ap not (refusal-keeps r))) refl))
+handed-through r (Ok d) h e s = absurd h

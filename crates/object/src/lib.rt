@@ -1,11 +1,12 @@
 // The calls that every kind of object has, over the kind: the checks with which its calls begin, the wait that blocks, delete and abort.
 #![tactic(auto)]
 
-ghost use Rattle.std.specs.Prelude.{◌≡◌, ℕ, ◌<◌, IfOk};
+ghost use Rattle.std.specs.Prelude.{◌≡◌, ℕ, ◌+◌, ◌<◌, IfOk};
 ghost use Rattle.rules.specs.Sizes.{task_count, done, blocks};
 ghost use Rattle.rules.specs.Table.{task_of, with_task};
 ghost use Rattle.rules.specs.Move.{chosen, walk};
-ghost use Rattle.rules.specs.Object.{on_one, object_create_answer, wait_answer_on, has_waiter, block_answer, limited, blocked, waits, taken, object_abort_answer, object_abort, object_delete_answer, object_delete};
+ghost use Rattle.rules.specs.Time.{by_caller};
+ghost use Rattle.rules.specs.Object.{on_object, create_object, yes_no, on_one, object_create_answer, wait_answer_on, has_waiter, block_answer, limited, blocked, waits, taken, abort_answer, abort, object_abort_answer, object_abort, delete_answer, emptied, object_delete_answer, object_delete};
 ghost use Rattle.table.specs.Image.{view};
 ghost use Rattle.service.specs.Answers.{number_of, answer_after};
 ghost use Rattle.service.specs.Served.{Served};
@@ -17,25 +18,61 @@ use service::ending;
 use table::families::Kind;
 use table::layout::{self, Image};
 use table::tasks::Asked;
-use table::{moves, numbers, tasks};
+use table::{families, moves, numbers, tasks};
 
 pub mod kinds;
 
 use kinds::Object;
 
-// ---- the checks: each gives the number, in range, or says why not
+// ---- the checks of any number i: how many numbers there are, and the byte that says whether this one is in use
+
+// The answer of a create.
+pub fn create_answer(used: u8, count: u32, i: u32) -> Result<(), Refusal>
+    ensures { answer_after result done ≡ create_object count i used }
+{
+    if count <= i {
+        return Err(Refusal::BeyondRange);
+    }
+    if used == 1 {
+        return Err(Refusal::InUse);
+    }
+    Ok(())
+}
+
+fn use_answer(used: u8, count: u32, i: u32) -> Result<(), Refusal>
+    ensures { (n : ℕ) → answer_after result n ≡ on_object count i used n }
+{
+    if count <= i {
+        return Err(Refusal::BeyondRange);
+    }
+    if used != 1 {
+        return Err(Refusal::NotInUse);
+    }
+    Ok(())
+}
+
+// The answer of a wait, as far as it is every kind's; the kind is asked then what it has to take.
+pub fn ask_answer(s: &Image, used: u8, count: u32, i: u32, block: u32) -> Result<(), Refusal>
+    ensures { (n : ℕ) → answer_after result n ≡ by_caller (view s.now) (on_object count i used (yes_no block n)) }
+{
+    if numbers::get_running(s) == 0 {
+        return Err(Refusal::NoneRunning);
+    }
+    use_answer(used, count, i)?;
+    if 1 < block {
+        return Err(Refusal::BadValue);
+    }
+    Ok(())
+}
+
+// ---- the checks of a kind's: each gives the number, in range, or says why not
 
 pub fn in_use<K: Kind>(s: &Image, i: u32) -> Result<usize, Refusal>
     ensures answers { (n : ℕ) → answer_after result n ≡ on_one K.family i (view s.now) n }
     ensures within { IfOk result (λ j. (j ≡ i) × (j < K.family.count)) }
 {
     let j = i as usize;
-    if K::COUNT <= j {
-        return Err(Refusal::BeyondRange);
-    }
-    if K::get_used(s, j) != 1 {
-        return Err(Refusal::NotInUse);
-    }
+    use_answer(families::used_at::<K>(s, j), K::COUNT as u32, i)?;
     Ok(j)
 }
 
@@ -45,28 +82,18 @@ pub fn may_create<K: Kind>(s: &Image, i: u32) -> Result<usize, Refusal>
     ensures within { IfOk result (λ j. (j ≡ i) × (j < K.family.count)) }
 {
     let j = i as usize;
-    if K::COUNT <= j {
-        return Err(Refusal::BeyondRange);
-    }
-    if K::get_used(s, j) == 1 {
-        return Err(Refusal::InUse);
-    }
+    create_answer(families::used_at::<K>(s, j), K::COUNT as u32, i)?;
     Ok(j)
 }
 
-// As far as a wait is every kind's; the kind is asked then what it has to take. Each kind's `wait` is this and its own `take`: one over the kinds would
-// need a trait that says of each what it takes, for two lines. The words of a call stay apart, as they come.
+// Each kind's `wait` is this and its own `take`: one over the kinds would need a trait that says of each what it takes, for two lines. The words of a
+// call stay apart, as they come.
 pub fn may_wait<K: Kind>(s: &Image, i: u32, block: u32) -> Result<usize, Refusal>
     ensures answers { (n : ℕ) → answer_after result n ≡ wait_answer_on K.family i block n (view s.now) }
     ensures within { IfOk result (λ j. (j ≡ i) × (j < K.family.count)) }
 {
-    if numbers::get_running(s) == 0 {
-        return Err(Refusal::NoneRunning);
-    }
-    let j = in_use::<K>(s, i)?;
-    if 1 < block {
-        return Err(Refusal::BadValue);
-    }
+    let j = i as usize;
+    ask_answer(s, families::used_at::<K>(s, j), K::COUNT as u32, i, block)?;
     Ok(j)
 }
 
@@ -157,16 +184,24 @@ pub fn wait_on<K: Object>(s: &mut Image, i: usize, block: u32, limit: u32, asked
 
 // ---- abort and delete
 
-pub fn abort<K: Kind>(s: &mut Image, i: u32) -> Answer
-    ensures { Served (object_abort_answer K.family i (view s.old)) (chosen (object_abort K.family i (view s.old))) (number_of result) s.old s.new }
+// The abort of number i, whose waiters stand in the queue of this number behind `first`.
+pub fn abort_object(s: &mut Image, used: u8, count: u32, first: u8, i: u32) -> Answer
+    ensures { Served (on_object count i used (abort_answer (first + i) (view s.old))) (chosen (abort (first + i) (view s.old))) (number_of result) s.old s.new }
 {
-    let j = in_use::<K>(s, i)?;
-    let Some(w) = moves::first_in(s, K::FIRST + j) else {
+    use_answer(used, count, i)?;
+    let Some(w) = moves::first_in(s, first as usize + i as usize) else {
         return Err(Refusal::NoWaiter);
     };
     ending::end_wait(s, ending::ABORTED, w);
     moves::choose(s);
     Ok(Done::Now)
+}
+
+pub fn abort<K: Kind>(s: &mut Image, i: u32) -> Answer
+    ensures { Served (object_abort_answer K.family i (view s.old)) (chosen (object_abort K.family i (view s.old))) (number_of result) s.old s.new }
+{
+    let used = families::used_at::<K>(s, i as usize);
+    abort_object(s, used, K::COUNT as u32, K::FIRST as u8, i)
 }
 
 fn has_waiter(s: &Image, q: usize) -> bool
@@ -175,29 +210,42 @@ fn has_waiter(s: &Image, q: usize) -> bool
     moves::first_in(s, q).is_some()
 }
 
-fn may_delete<K: Kind>(s: &Image, i: u32, force: u32) -> Result<usize, Refusal>
-    ensures answers { answer_after result done ≡ object_delete_answer K.family i force (view s.now) }
-    ensures within { IfOk result (λ j. (j ≡ i) × (j < K.family.count)) }
+// The delete of number i as far as it is every kind's: each of its waiters is let go. Then the object goes.
+pub fn delete_waiters(s: &mut Image, used: u8, count: u32, first: u8, i: u32, force: u32) -> Answer
+    ensures { Served (on_object count i used (delete_answer force (first + i) (view s.old))) (emptied (first + i) (view s.old)) (number_of result) s.old s.new }
 {
-    let j = in_use::<K>(s, i)?;
+    use_answer(used, count, i)?;
     if 1 < force {
         return Err(Refusal::BadValue);
     }
-    if (force == 0) & has_waiter(s, K::FIRST + j) {
+    let q = first as usize + i as usize;
+    if (force == 0) & has_waiter(s, q) {
         return Err(Refusal::StillNeeded);
     }
-    Ok(j)
+    ending::end_all(s, ending::OBJECT_DELETED, q);
+    Ok(Done::Now)
 }
 
-// Each of its waiters is let go, then the object goes, and the chain from its holder moves.
+// The holder of number i, where there is such a number.
+fn holder_at<K: Object>(s: &Image, i: usize) -> usize
+    ensures { i < K.family.count → result ≡ K.family.holder (view s.now) i }
+{
+    if K::COUNT <= i {
+        return layout::TASKS;
+    }
+    K::get_holder(s, i)
+}
+
+// The object goes when its waiters are let go, and then the chain moves from whoever held it before.
 pub fn delete<K: Object>(s: &mut Image, i: u32, force: u32) -> Answer
     ensures { Served (object_delete_answer K.family i force (view s.old)) (chosen (object_delete K.family i (view s.old))) (number_of result) s.old s.new }
 {
-    let j = may_delete::<K>(s, i, force)?;
-    let holder = K::get_holder(s, j);
-    ending::end_all(s, ending::OBJECT_DELETED, K::FIRST + j);
+    let j = i as usize;
+    let holder = holder_at::<K>(s, j);
+    let used = families::used_at::<K>(s, j);
+    let answer = delete_waiters(s, used, K::COUNT as u32, K::FIRST as u8, i, force)?;
     K::clear(s, j);
     walk::walk_from(s, holder);
     moves::choose(s);
-    Ok(Done::Now)
+    Ok(answer)
 }

@@ -16,7 +16,8 @@ const SLOTS: u32 = 57 * 32;
 // The messages of all channels.
 const MESSAGES: u32 = 16 * 32;
 
-// A function for each part of the list: its range and its clause are its own.
+// A function for each part of the list: its range and its clause are its own. Each is within `read`, as its Option would come back in two registers.
+#[inline(always)]
 #[tactic(auto, unfolding(crate::specs::Field::shown_in))]
 fn task_field(field: u32, number: u32, s: &Image) -> Option<u64>
     ensures { unwrap_or result no_field ≡ shown_in task_fields field number (view s.now) }
@@ -45,6 +46,7 @@ fn task_field(field: u32, number: u32, s: &Image) -> Option<u64>
     }
 }
 
+#[inline(always)]
 #[tactic(auto, unfolding(crate::specs::Field::shown_in))]
 fn object_field(field: u32, number: u32, s: &Image) -> Option<u64>
     ensures { unwrap_or result no_field ≡ shown_in object_fields field number (view s.now) }
@@ -63,6 +65,7 @@ fn object_field(field: u32, number: u32, s: &Image) -> Option<u64>
     }
 }
 
+#[inline(always)]
 #[tactic(auto, unfolding(crate::specs::Field::shown_in))]
 fn group_field(field: u32, number: u32, s: &Image) -> Option<u64>
     ensures { unwrap_or result no_field ≡ shown_in group_fields field number (view s.now) }
@@ -78,6 +81,7 @@ fn group_field(field: u32, number: u32, s: &Image) -> Option<u64>
     }
 }
 
+#[inline(always)]
 #[tactic(auto, unfolding(crate::specs::Field::shown_in))]
 fn channel_field(field: u32, number: u32, s: &Image) -> Option<u64>
     ensures { unwrap_or result no_field ≡ shown_in channel_fields field number (view s.now) }
@@ -95,6 +99,7 @@ fn channel_field(field: u32, number: u32, s: &Image) -> Option<u64>
 }
 
 // Slot j of queue q is number 32 q + j.
+#[inline(always)]
 #[tactic(auto, unfolding(crate::specs::Field::shown_in))]
 fn slot_field(field: u32, number: u32, s: &Image) -> Option<u64>
     ensures { unwrap_or result no_field ≡ shown_in queue_fields field number (view s.now) }
@@ -110,6 +115,7 @@ fn slot_field(field: u32, number: u32, s: &Image) -> Option<u64>
 }
 
 // Slot j of the row of channel c is number 32 c + j.
+#[inline(always)]
 #[tactic(auto, unfolding(crate::specs::Field::shown_in))]
 fn message_field(field: u32, number: u32, s: &Image) -> Option<u64>
     ensures { unwrap_or result no_field ≡ shown_in message_fields field number (view s.now) }
@@ -124,6 +130,7 @@ fn message_field(field: u32, number: u32, s: &Image) -> Option<u64>
     }
 }
 
+#[inline(always)]
 #[tactic(auto, unfolding(crate::specs::Field::shown_in))]
 fn single_field(field: u32, number: u32, s: &Image) -> Option<u64>
     ensures { unwrap_or result no_field ≡ shown_in single_fields field number (view s.now) }

@@ -58,9 +58,8 @@ module _ (v : ℕ) (l : List ℕ) where
       let k : packed_at v (drop i l) ≡ suc (length (drop (suc i) l)) = rw (drop-cons l i 0 h, ne_eqb _ _ d, eq-eqb _ _ e) in
       omega (arith, length-drop (suc i) l)
 
-  pub seek_ended : (i : ℕ) → i ≡ length l → Sought i → length l ≡ packed_at v l
+  pub seek_ended : (i : ℕ) → length l ≤ i → Sought i → i ≡ packed_at v l
   unfolding packed_at
-  seek_ended i e s =
-      let h : length l ≤ i = omega arith in
+  seek_ended i h s =
       let k : packed_at v (drop i l) ≡ 0 = rw (drop_of_length-le l h) in
       omega arith

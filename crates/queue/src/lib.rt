@@ -32,10 +32,14 @@ fn slot_or_free(ids: &[u8], j: usize) -> u8
 }
 
 // The first id.
+#[tactic(auto, unfolding(crate::specs::Answers::head_of))]
 pub fn first(ids: &[u8]) -> Option<u8>
     ensures { result ≡ head_of ids.now }
 {
-    slot_or_free(ids, 0).checked_sub(1)
+    match slot_or_free(ids, 0) {
+        0 => None,
+        v => Some(v - 1),
+    }
 }
 
 // The place of an id.

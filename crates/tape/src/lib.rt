@@ -27,14 +27,18 @@ pub enum Stop {
     NoKind,
 }
 
-// The number of up to 4 bytes, the lowest first.
+// The number of up to 4 bytes, the lowest first. By how many there are: copied into four they would be a call of the C library for each number.
 fn little(bytes: &[u8]) -> u32
     requires { length bytes.now ≤ 4 }
     ensures { result ≡ little bytes.now }
 {
-    let mut four = [0u8; 4];
-    four[..bytes.len()].copy_from_slice(bytes);
-    u32::from_le_bytes(four)
+    match bytes {
+        [] => 0,
+        [a] => u32::from_le_bytes([*a, 0, 0, 0]),
+        [a, b] => u32::from_le_bytes([*a, *b, 0, 0]),
+        [a, b, c] => u32::from_le_bytes([*a, *b, *c, 0]),
+        [a, b, c, d, ..] => u32::from_le_bytes([*a, *b, *c, *d]),
+    }
 }
 
 // The numbers of a body, each behind those before it; 0 for those that the kind does not have.

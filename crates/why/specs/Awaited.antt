@@ -1,18 +1,17 @@
 -- What the tests of a wait come to, by the state of the task.
-use Rattle.std.specs.Prelude.{◌≡◌, refl, Bool, false, cond, ℕ, ◌-◌, ◌≤◌, ◌<◌, ltb, leb, ◌&&◌}
+use Rattle.std.specs.Prelude.{◌≡◌, refl, Bool, false, cond, ℕ, ◌-◌, ◌≤◌, ◌<◌, ltb}
 use Rattle.std.proofs.Math.Path.{sym}
 use Rattle.std.proofs.Common.{◌∙◌}
 use Rattle.std.proofs.Math.Bool.{true, not}
 use native.Mathlib.Omega.{arith}
 use Rattle.std.proofs.Math.Dec.{eqb}
 use Rattle.std.proofs.Math.ListN.{get_or-eq_default}
-use borrow.Author.Tests.{eqb-true, ne_eqb, leb-false}
+use borrow.Author.Tests.{eqb-true, ne_eqb}
 use Rattle.rules.specs.Sizes.{task_count, semaphore_count, mutex_count, channel_count, waits_semaphore, waits_mutex, waits_flags, waits_message}
-use Rattle.rules.specs.Table.{Table, is_able, task_of, semaphore_of, mutex_of, group_of, channel_of, holder_of, no_task, no_semaphore, no_mutex, no_channel}
+use Rattle.rules.specs.Table.{Table, task_of, semaphore_of, mutex_of, group_of, channel_of, holder_of, no_task, no_semaphore, no_mutex, no_channel}
 use Rattle.rules.specs.Family.{Family, semaphores, mutexes, groups, channels}
 use Rattle.rules.specs.Sound.{implies, each_of, Shaped}
-use Rattle.sound.specs.Whole.{may_run as sound_run}
-use Rattle.why.specs.Tests.{of_awaited, is_object_used, offers_nothing, is_apart, is_holder_used, may_run}
+use Rattle.why.specs.Tests.{of_awaited, is_object_used, offers_nothing, is_apart, is_holder_used}
 
 -- ---- by the state
 
@@ -111,20 +110,6 @@ module _ {t : Table} (s : Shaped t) where
 
   pub no_holder : {o : ℕ} → mutex_count ≤ o → false ≡ not (eqb (mutex_of t o).holder 0)
   no_holder {o} h = rw (get_or-eq_default t.mutexes no_mutex {n = o} (omega (arith, s.mutexes)))
-
-  -- Who may run while the scheduler is locked, in the words of the test of the whole table.
-  pub run_is : (v : ℕ) → sound_run t v ≡ may_run t v
-  unfolding sound_run may_run is_able
-  run_is v = go (leb v task_count) refl
-    where
-      beyond : task_count < v → may_run t v ≡ false
-      beyond l =
-          let n : v ≡ 0 → ⊥ = λ z. omega arith in
-          rw (ne_eqb v 0 n, get_or-eq_default t.tasks no_task {n = v - 1} (omega (arith, s.tasks)))
-
-      go : (b : Bool) → leb v task_count ≡ b → b && may_run t v ≡ may_run t v
-      go true e = refl
-      go false e = sym (beyond (leb-false v task_count e))
 
   module _ (m : ℕ) {h : ℕ} (e : h ≡ (mutex_of t m).holder) where
     pub holder_none : h ≡ 0 → true ≡ is_holder_used t m

@@ -2,14 +2,36 @@
 ghost use Rattle.std.specs.Prelude.{◌≡◌, ◌<◌, eqb};
 ghost use Rattle.rules.specs.Sizes.{task_count};
 ghost use Rattle.rules.specs.Table.{task_of};
-ghost use Rattle.rules.specs.Sound.{implies, is_no_task};
+ghost use Rattle.rules.specs.Family.{objects_in};
+ghost use Rattle.rules.specs.Sound.{implies, asks_in, is_no_task};
 ghost use Rattle.table.specs.Image.{view};
 ghost use Rattle.why.specs.Tests.{kept_in, range_tests, task_tests};
 ghost use Rattle.why.specs.Zeros.{is_plain_zero, is_wait_zero};
 
-use sound::tasks::{asks_in, objects_in};
 use table::layout::Image;
-use table::tasks;
+use table::{layout, tasks};
+
+// How many numbers the object of a task in this state may have. It is no function of `sound`, which shares no test with this crate.
+#[tactic(auto, unfolding(rules::specs::Family::of_state))]
+fn objects_in(state: u8) -> u8
+    ensures { result ≡ objects_in state }
+{
+    match state {
+        tasks::WAITS_SEMAPHORE => layout::SEMAPHORES as u8,
+        tasks::WAITS_MUTEX => layout::MUTEXES as u8,
+        tasks::WAITS_FLAGS => layout::GROUPS as u8,
+        tasks::WAITS_MESSAGE => layout::CHANNELS as u8,
+        _ => 1,
+    }
+}
+
+// How many numbers what is asked of flags may have: n, and none but 0 where the task waits for no flags.
+#[tactic(auto, unfolding(rules::specs::Sound::asks_in))]
+fn asks_in(state: u8, n: u8) -> u8
+    ensures { result ≡ asks_in state n }
+{
+    if state == tasks::WAITS_FLAGS { n } else { 1 }
+}
 
 #[tactic(auto, unfolding(crate::specs::Tests::kept_in))]
 pub fn is_in_range(s: &Image, rule: u32, i: usize) -> bool

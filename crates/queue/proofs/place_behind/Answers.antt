@@ -18,4 +18,4 @@ loop-i-preserved c =
 pub returns : goal.returns
 returns c =
     let a = c.args in
-    scan_ended (from a.keys.now (a.key + 1)) a.ids.now _ (omega arith) c.loop-i.invariant
+    omega (arith, scan_ended (from a.keys.now (a.key + 1)) a.ids.now _ (omega arith) c.loop-i.invariant)

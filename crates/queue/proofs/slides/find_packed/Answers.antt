@@ -16,4 +16,4 @@ loop-i-preserved c =
 
 pub returns : goal.returns
 returns c =
-    seek_ended _ _ _ (omega arith) c.loop-i.invariant
+    omega (arith, seek_ended _ _ _ (omega arith) c.loop-i.invariant)

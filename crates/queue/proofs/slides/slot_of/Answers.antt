@@ -17,4 +17,4 @@ loop-i-preserved c =
 pub returns : goal.returns
 returns c =
     let a = c.args in
-    scan_ended (same a.v) a.ids.now _ (omega arith) c.loop-i.invariant
+    omega (arith, scan_ended (same a.v) a.ids.now _ (omega arith) c.loop-i.invariant)
